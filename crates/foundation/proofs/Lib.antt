@@ -1,0 +1,3 @@
+pub mod First
+pub mod Shares
+pub mod Sums

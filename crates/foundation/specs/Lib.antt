@@ -1,0 +1,4 @@
+pub mod Division
+pub mod Fault
+pub mod First
+pub mod Sums

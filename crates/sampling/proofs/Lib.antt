@@ -1,0 +1,9 @@
+pub mod Accepted
+pub mod History
+pub mod Products
+pub mod Published
+pub mod Records
+pub mod Registration
+pub mod Signed
+pub mod Subtotals
+pub mod Units

@@ -1,0 +1,9 @@
+pub mod Accepted
+pub mod Category
+pub mod Factors
+pub mod History
+pub mod Interval
+pub mod Records
+pub mod Registration
+pub mod Units
+pub mod Weights
