@@ -48,7 +48,7 @@ pub struct Sums {
 }
 
 impl Sums {
-    pub fn zero() -> Sums
+    pub(crate) fn zero() -> Sums
         ensures { λ r. ⌜ r ≡ record { «raise_not_enabled» = pos 0; «raise_enabled» = pos 0; «lower_not_enabled» = pos 0; «lower_enabled» = pos 0 } ⌝ }
     {
         Sums {
@@ -59,7 +59,7 @@ impl Sums {
         }
     }
 
-    pub fn of(&self, category: Category) -> i64
+    pub(crate) fn of(&self, category: Category) -> i64
         ensures { λ r. ⌜ r ≡ sumIn (now (self .entry)) category ⌝ }
     {
         match category {

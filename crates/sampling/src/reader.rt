@@ -48,7 +48,7 @@ fn decoded(bytes: &[u8], at: usize) -> [i16; 75]
 }
 
 impl<'a> Reader<'a> {
-    pub fn new(bytes: &'a [u8]) -> Reader<'a>
+    pub(crate) fn new(bytes: &'a [u8]) -> Reader<'a>
         ensures lent { λ r. ⌜ now (r .bytes) ≡ now (bytes .entry) ⌝ }
         ensures start { λ r. ⌜ r .place ≡ 0 ⌝ }
     {
@@ -56,7 +56,7 @@ impl<'a> Reader<'a> {
     }
 
     // The record at the reader's place, which moves on to the next.
-    pub fn read(&mut self) -> Record
+    pub(crate) fn read(&mut self) -> Record
         requires { ⌜ 156 * suc (now self .place) ≤ length (now (now self .bytes)) ⌝ }
         ensures lent { λ _. ⌜ now (now (self .exit) .bytes) ≡ now (now (self .entry) .bytes) ⌝ }
         ensures moved { λ _. ⌜ now (self .exit) .place ≡ suc (now (self .entry) .place) ⌝ }

@@ -145,6 +145,7 @@ impl Sampling {
         Factors::divided(&weights, counts_of(units))
     }
 
+    // How many units are registered.
     pub fn units(&self) -> usize
         ensures answer { λ r. ⌜ r ≡ vec-len (now (self .entry) .units) ⌝ }
         ensures law { λ r. ⌜ ((h : List Event) → Gone h (now (self .entry)) → r ≡ length (ownersIn h)) ⌝ }
@@ -152,11 +153,12 @@ impl Sampling {
         self.units.len()
     }
 
+    // How many intervals were used.
     pub fn used(&self) -> u16
         ensures answer { λ r. ⌜ r ≡ now (self .entry) .used ⌝ }
         ensures law { λ r. ⌜ ((h : List Event) → Gone h (now (self .entry)) → r ≡ length (accepted h)) ⌝ }
     {
-        self.used
+        self.used // the accepted ones alone
     }
 
     // A unit's sum in a category, 0 for a unit that is not registered.
