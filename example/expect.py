@@ -17,22 +17,37 @@ WORDS = {
     5: "not the expected unit",
     6: "no unit registered, or no interval used",
     7: "all weights are 0",
+    19: "too much energy",
 }
 
 RECORD = 156
 RESIDUAL = 64
 CATEGORIES = ("RNEF", "REF", "LNEF", "LEF")
 
+PARTIES = 64
+REGIONS = 5
+METER = 8
+MOST_METERS = 4_096
+MOST_ENERGY = 40_000_000
+
 
 # ---- the rules
 
 class Refused(Exception):
+    """A refusal of samples."""
+
+    layer = "1 (samples)"
+
     def __init__(self, number, place=0):
         self.number = number
         self.place = place
 
     def __str__(self):
-        return f"refused {self.number} ({WORDS[self.number]}) in layer 1 (samples), place {self.place}"
+        return f"refused {self.number} ({WORDS[self.number]}) in layer {self.layer}, place {self.place}"
+
+
+class RefusedEnergy(Refused):
+    layer = "2 (energies)"
 
 
 def divide(amount, weights):
@@ -183,10 +198,93 @@ class Sampling:
         return Factors(shares, counts, self.used)
 
 
+class Energies:
+    """One figure of kWh for each party and region. Those that are not kept are 0."""
+
+    def __init__(self, figures):
+        self.figures = {pair: kwh for pair, kwh in figures.items() if kwh != 0}
+
+    def total(self, region):
+        return sum(kwh for (_, at), kwh in self.figures.items() if at == region)
+
+    def totals(self):
+        return [self.total(region) for region in range(REGIONS)]
+
+    def island(self, regions):
+        return Energies({(party, at): kwh for (party, at), kwh in self.figures.items() if at in regions})
+
+    def handover(self, leaver, successor):
+        if leaver == successor or leaver >= PARTIES or successor >= PARTIES:
+            return self
+        figures = {}
+        for (party, region), kwh in self.figures.items():
+            pair = (successor if party == leaver else party, region)
+            figures[pair] = figures.get(pair, 0) + kwh
+        return Energies(figures)
+
+
+def metered(data):
+    """The energies of metered records."""
+    if len(data) % METER != 0 or len(data) > METER * MOST_METERS:
+        raise RefusedEnergy(1)
+    figures = {}
+    energy = 0
+    for place in range(len(data) // METER):
+        at = METER * place
+        party, region, kwh = unsigned(data, at), data[at + 2], 65_536 * unsigned(data, at + 4) + unsigned(data, at + 6)
+        if party >= PARTIES or region >= REGIONS or data[at + 3] != 0:
+            raise RefusedEnergy(2, place)
+        energy += kwh
+        if energy > MOST_ENERGY:
+            raise RefusedEnergy(19, place)
+        figures[party, region] = figures.get((party, region), 0) + kwh
+    return Energies(figures)
+
+
+def profile(totals, weights):
+    """The energies of regional totals, each divided over the weights of the parties."""
+    if sum(totals) > MOST_ENERGY:
+        raise RefusedEnergy(19)
+    of_all = weights + [0] * (PARTIES - len(weights))
+    figures = {}
+    for region, total in enumerate(totals):
+        for party, share in enumerate(divide(total, of_all)):
+            figures[party, region] = share
+    return Energies(figures)
+
+
+def regions_of(region_set):
+    """The regions of a set; bits that stand for none are ignored."""
+    return [region for region in range(REGIONS) if region_set >> region & 1]
+
+
+def dispatch_figure(residual, energies, region_set):
+    if not 1 <= region_set <= 31:
+        raise RefusedEnergy(2)
+    totals = energies.totals()
+    if sum(totals) == 0:
+        return 0
+    return residual * sum(totals[region] for region in regions_of(region_set)) // sum(totals)
+
+
 # ---- the run sheet
 
 class BadSheet(Exception):
     pass
+
+
+def numbers(line_number, words, most):
+    for word in words:
+        if not (word.isascii() and word.isdigit() and int(word) <= most):
+            raise BadSheet(f"line {line_number}: {word} is not a number from 0 to {most}")
+    return [int(word) for word in words]
+
+
+def numbers_asked(line_number, step, words, count, most):
+    """Exactly so many numbers."""
+    if len(words) != count:
+        raise BadSheet(f"line {line_number}: the count of numbers after {step} is not {count}")
+    return numbers(line_number, words, most)
 
 
 def steps_of(text):
@@ -199,11 +297,8 @@ def steps_of(text):
             continue
         step, rest = words[0], words[1:]
         if step == "units":
-            for word in rest:
-                if not (word.isascii() and word.isdigit() and int(word) <= 255):
-                    raise BadSheet(f"line {line_number}: {word} is not a number from 0 to 255")
-            steps.append((line_number, step, bytes(int(word) for word in rest)))
-        elif step in ("units-file", "samples"):
+            steps.append((line_number, step, bytes(numbers(line_number, rest, 255))))
+        elif step in ("units-file", "samples", "metered"):
             if len(rest) != 1:
                 raise BadSheet(f"line {line_number}: {step} takes one file name")
             steps.append((line_number, step, rest[0]))
@@ -211,6 +306,18 @@ def steps_of(text):
             if rest not in ([], ["anyway"]):
                 raise BadSheet(f"line {line_number}: publish takes no word but anyway")
             steps.append((line_number, step, rest == ["anyway"]))
+        elif step == "profile":
+            totals, weights = rest[:REGIONS], rest[REGIONS:]
+            if len(weights) > PARTIES:
+                raise BadSheet(f"line {line_number}: profile takes at most {PARTIES} weights")
+            totals = numbers_asked(line_number, step, totals, REGIONS, 4_294_967_295)
+            steps.append((line_number, step, (totals, numbers(line_number, weights, 65_535))))
+        elif step in ("island", "dispatch"):
+            steps.append((line_number, step, numbers_asked(line_number, step, rest, 1, 255)[0]))
+        elif step == "handover":
+            steps.append((line_number, step, numbers_asked(line_number, step, rest, 2, 65_535)))
+        elif step == "totals":
+            steps.append((line_number, step, numbers_asked(line_number, step, rest, 0, 0)))
         else:
             raise BadSheet(f"line {line_number}: {step} is not a step")
     return steps
@@ -222,6 +329,7 @@ class Run:
         self.say = say
         self.sampling = Sampling()
         self.published = None
+        self.energies = Energies({})
         self.used = 0
         self.refusals = []
 
@@ -269,6 +377,46 @@ class Run:
         self.sampling = Sampling()
         self.say(f"line {line_number}: factors published from {self.published.intervals} intervals")
 
+    def metered(self, line_number, name):
+        data = self.read(line_number, name)
+        try:
+            self.energies = metered(data)
+        except RefusedEnergy as refusal:
+            self.say(f"line {line_number}: {refusal}")
+        else:
+            self.say(f"line {line_number}: {name}: {len(data) // METER} metered records")
+
+    def profile(self, line_number, totals, weights):
+        try:
+            self.energies = profile(totals, weights)
+        except RefusedEnergy as refusal:
+            self.say(f"line {line_number}: {refusal}")
+        else:
+            self.say(f"line {line_number}: profile set")
+
+    def island(self, line_number, region_set):
+        self.energies = self.energies.island(regions_of(region_set))
+        self.say(f"line {line_number}: island of set {region_set}")
+
+    def handover(self, line_number, leaver, successor):
+        self.energies = self.energies.handover(leaver, successor)
+        self.say(f"line {line_number}: handover from party {leaver} to party {successor}")
+
+    def totals(self, line_number):
+        totals = self.energies.totals()
+        self.say(f"line {line_number}: totals {' '.join(map(str, totals))}, sum {sum(totals)}")
+
+    def dispatch(self, line_number, region_set):
+        if self.published is None:
+            self.say(f"line {line_number}: no factors are published, so there is no dispatch figure")
+            return
+        try:
+            figure = dispatch_figure(self.published.shares[RESIDUAL], self.energies, region_set)
+        except RefusedEnergy as refusal:
+            self.say(f"line {line_number}: {refusal}")
+        else:
+            self.say(f"line {line_number}: dispatch figure of set {region_set}: {figure}")
+
     def steps(self, steps):
         for line_number, step, what in steps:
             if step == "units":
@@ -277,8 +425,20 @@ class Run:
                 self.units(line_number, self.read(line_number, what))
             elif step == "samples":
                 self.samples(line_number, what)
-            else:
+            elif step == "publish":
                 self.publish(line_number, what)
+            elif step == "metered":
+                self.metered(line_number, what)
+            elif step == "profile":
+                self.profile(line_number, *what)
+            elif step == "island":
+                self.island(line_number, what)
+            elif step == "handover":
+                self.handover(line_number, *what)
+            elif step == "totals":
+                self.totals(line_number)
+            else:
+                self.dispatch(line_number, what)
 
     def summary(self):
         self.say("")

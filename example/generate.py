@@ -22,6 +22,10 @@ MARK = -32_768
 
 RAISE, LOWER = 1, 2
 
+REGIONS = 5
+MOST_METERS = 4_096
+MOST_KWH = 40_000_000
+
 
 class Numbers:
     """Pseudo-random whole numbers (splitmix64)."""
@@ -279,17 +283,141 @@ def trial():
     return b"".join(record.bytes() for records in intervals for record in records)
 
 
-SHEET = """\
-# A run over some five-minute intervals of a 28-day sample period. docs/FORMATS.md says what the steps mean.
-# The figures are invented; example/generate.py makes this sheet and its files.
+# ---- energies
 
+class Meter:
+    """A metered record."""
+
+    def __init__(self, party, region, kwh):
+        self.party = party
+        self.region = region
+        self.zero = 0
+        self.kwh = kwh
+
+    def bytes(self):
+        return struct.pack(">HBBI", self.party, self.region, self.zero, self.kwh)
+
+
+def meter_file(meters):
+    return b"".join(meter.bytes() for meter in meters)
+
+
+# Who takes energy in which regions, and what one of its meters shows in five minutes, in kWh.
+CUSTOMERS = [
+    (41, (0, 1), 9_000),            # the factored parties of the sampling proper take energy too
+    (3, (2,), 14_000),
+    (12, (1, 4), 6_500),
+    (63, (0,), 2_800),
+    (7, (3,), 1_900),
+    (0, (2, 3), 350),
+    (9, (0, 1, 2, 3), 31_000),      # retailers, the large ones first
+    (27, (1, 2, 4), 24_000),
+    (30, (0, 1, 2), 27_000),
+    (5, (0, 2), 18_000),
+    (18, (1, 3), 12_500),
+    (50, (4,), 9_500),
+    (33, (0, 1, 2, 3, 4), 7_000),
+    (22, (0,), 5_200),
+    (61, (1,), 4_100),
+    (14, (2, 3), 3_300),
+    (1, (0,), 2_600),
+    (47, (3,), 1_400),
+    (36, (4,), 1_100),
+    (55, (1, 2), 800),
+    (8, (0,), 240),
+    (59, (4,), 45),
+    (28, (3,), 0),                  # takes nothing
+]
+
+
+def meters(numbers, count):
+    """As many metered records, of each customer and region at least one, in no order."""
+    pairs = [(party, region, size) for party, regions, size in CUSTOMERS for region in regions]
+    drawn = pairs + [pairs[numbers.next() % len(pairs)] for _ in range(count - len(pairs))]
+    made = [Meter(party, region, size + numbers.around(size // 2)) for party, region, size in drawn]
+    for last in range(count - 1, 0, -1):
+        other = numbers.next() % (last + 1)
+        made[last], made[other] = made[other], made[last]
+    return made
+
+
+def full_meters(numbers):
+    """As many records as there may be, of all parties and regions, with as much energy as there may be."""
+    made = [Meter(numbers.next() % 64, numbers.next() % REGIONS, 9_000 + numbers.next() % 1_500) for _ in range(MOST_METERS)]
+    made[-1].kwh += MOST_KWH - sum(meter.kwh for meter in made)
+    return made
+
+
+# ---- what is altered in metered records; `zero_byte` serves here too
+
+def party_number(record, number):
+    def alter(records):
+        records[record].party = number
+    return alter
+
+
+def region_number(record, number):
+    def alter(records):
+        records[record].region = number
+    return alter
+
+
+def kwh_figure(record, number):
+    def alter(records):
+        records[record].kwh = number
+    return alter
+
+
+def altered_meters(*alterations):
+    """The bytes of five records, altered."""
+    records = [Meter(5, 0, 17_340), Meter(30, 2, 26_018), Meter(5, 0, 18_905), Meter(9, 3, 30_227), Meter(59, 4, 41)]
+    for alter in alterations:
+        alter(records)
+    return meter_file(records)
+
+
+# A comment tells why the file is refused.
+BAD_METERS = {
+    "meters-cut.bin": altered_meters(party_number(0, 64)) + b"\0\x3b\x04",     # 1, which comes before the party
+    "meters-long.bin": meter_file([Meter(0, 0, 0)] * (MOST_METERS + 1)),        # 1
+    "meters-party-first.bin": altered_meters(party_number(0, 64)),              # 2, place 0
+    "meters-party-middle.bin": altered_meters(party_number(2, 65_535), region_number(4, 5)),    # 2, place 2: the first
+    "meters-party-last.bin": altered_meters(party_number(4, 256)),              # 2, place 4: its low byte is a party
+    "meters-region-first.bin": altered_meters(region_number(0, 5), kwh_figure(1, MOST_KWH)),    # 2, place 0: the first
+    "meters-region-middle.bin": altered_meters(region_number(2, 255)),          # 2, place 2
+    "meters-region-last.bin": altered_meters(region_number(4, 8)),              # 2, place 4
+    "meters-zero-first.bin": altered_meters(zero_byte(0, 1)),                   # 2, place 0
+    "meters-zero-middle.bin": altered_meters(zero_byte(2, 128), party_number(3, 64)),   # 2, place 2: the first
+    "meters-zero-last.bin": altered_meters(zero_byte(4, 255)),                  # 2, place 4
+    "meters-both.bin": altered_meters(kwh_figure(3, MOST_KWH), region_number(3, 5)),    # 2, place 3: comes before 19
+    "meters-early.bin": altered_meters(kwh_figure(1, MOST_KWH), party_number(3, 64)),   # 19, place 1: the first
+    "meters-wide.bin": altered_meters(kwh_figure(1, 4_294_967_295)),            # 19, place 1: in 32 bits the sum is small
+    "meters-above.bin": meter_file([                                            # 19, place 4: one kWh too many
+        Meter(5, 0, 15_000_000), Meter(30, 2, 4_999_999), Meter(9, 3, 0), Meter(5, 0, 20_000_000), Meter(5, 0, 2)]),
+}
+
+
+def energy_files():
+    numbers = Numbers(20170304)
+    return {
+        "meters.bin": meter_file(meters(numbers, 120)),
+        "meters-none.bin": b"",
+        "meters-full.bin": meter_file(full_meters(numbers)),
+        **BAD_METERS,
+    }
+
+
+SHEET = """\
+# A run over invented figures. example/generate.py makes this sheet and its files; docs/FORMATS.md says what the steps mean.
+totals                                 # a run begins with no energy
+dispatch 0                             # no figure: no factors are published yet, which comes before the bad set
 # ---- A trial with two units, both of party 20. They help, or do so little harm that it averages to 0.
 units-file trial.units
 samples trial.bin
 publish                                # refused (7): all weights are 0; the sampling stays open
 publish anyway                         # says so again, and publishes factors of 0
-
-# ---- The sampling proper. It is new: no unit is registered, and no interval was used.
+profile 300 205 100 0 7 1              # energies, all of party 0; see below
+# ---- The sampling proper, over some intervals of 28 days. It is new: no unit is registered, and no interval was used.
 samples start.bin                      # refused (6): no unit yet, so the length of an interval is not known
 units                                  # refused (1): no unit is listed
 units 3 3 12 64 20 41 0 7 63 65 41     # refused (2): there is no owner 65
@@ -304,6 +432,117 @@ publish
 units 20 20
 samples trial.bin
 publish                                # refused (7)
+
+# ---- Energies, in kWh. The dispatch figure takes RMPF from the table, which was published last.
+totals                                 # those of line 9: a publication leaves them as they are
+dispatch 5                             # regions 0 and 2
+metered meters-none.bin                # an empty file is no energy
+totals
+dispatch 3                             # 0
+dispatch 32                            # refused (2): a set is 1 to 31, also where there is no energy
+metered meters.bin                     # in no order; records of the same party and region add up
+totals
+dispatch 1                             # region 0
+dispatch 2                             # region 1
+dispatch 3                             # both: rounded down once, so it is one more than the two together
+dispatch 4
+dispatch 8
+dispatch 16
+dispatch 31                            # all regions: RMPF itself
+dispatch 0                             # refused (2)
+dispatch 33                            # refused (2): bit 0 is a region, but bit 5 is none
+
+# ---- Metered files that are refused, and leave the energies as they are.
+metered meters-cut.bin                 # refused (1): three bytes too many, which comes before the bad party of its first record
+metered meters-long.bin                # refused (1): 4,097 records
+metered meters-party-first.bin         # refused (2): party 64
+metered meters-party-middle.bin        # refused (2): party 65535; the bad region of a later record is not told
+metered meters-party-last.bin          # refused (2): party 256
+metered meters-region-first.bin        # refused (2): region 5; too much energy comes only after it
+metered meters-region-middle.bin       # refused (2): region 255
+metered meters-region-last.bin         # refused (2): region 8
+metered meters-zero-first.bin          # refused (2): the zero byte is 1
+metered meters-zero-middle.bin         # refused (2): it is 128; the bad party of a later record is not told
+metered meters-zero-last.bin           # refused (2): it is 255
+metered meters-both.bin                # refused (2): a bad region, which comes before too much energy in the same record
+metered meters-early.bin               # refused (19): too much energy; the bad party comes only after it
+metered meters-wide.bin                # refused (19): the largest figure that a record can hold
+metered meters-above.bin               # refused (19): the last record makes it 40,000,001 kWh
+totals                                 # as they were
+
+# ---- As much as there may be.
+metered meters-full.bin                # 4,096 records that add up to 40,000,000 kWh
+totals
+dispatch 12                            # regions 2 and 3
+
+# ---- Profiles: the totals of regions 0 to 4, then the weights of parties 0, 1, and so on.
+profile 1210 905 747 0 83 5 0 3 9      # parties 0, 2 and 3; all others have weight 0
+totals
+dispatch 6
+profile 9999999 30000001 0 0 1 7 7     # refused (19): 40,000,001 kWh
+profile 0 0 0 0 40000001               # refused (19), though no party has a weight
+profile 4294967295 1 0 0 0 1           # refused (19): in 32 bits the sum would be 0
+totals                                 # as they were
+profile 1210 905 747 0 83 0 0 0        # all weights are 0: so are all energies, and the totals
+totals
+dispatch 1                             # 0
+profile 1210 905 747 0 83              # the same with no weight named
+totals
+# The most energy, and all 64 weights.
+profile 13000000 11000000 9000000 4000001 2999999 350 26 0 14 0 18 0 19 2 31 0 0 65 0 33 0 0 0 125 0 0 0 52 0 0 0 0 65535 1 0 27 0 0 70 0 0 11 0 0 0 0 90 0 0 0 0 0 14 0 0 95 0 0 0 0 8 0 0 0 45 0 41 0 28
+totals
+dispatch 24
+island 9                               # of the profile: regions 0 and 3
+totals
+dispatch 1
+
+# ---- Islands and handovers put over one another: first an island ..
+metered meters.bin                     # whole again: neither the island nor the profile is left
+island 11                              # regions 0, 1 and 3
+totals
+dispatch 3
+dispatch 20                            # 0: regions 2 and 4 are not seen
+handover 9 27                          # moves energy within each region: no total changes, and the island stays one
+totals
+dispatch 3                             # as it was
+handover 9 27                          # party 9 has no energy left
+handover 27 30
+handover 30 30                         # nothing is moved: one and the same
+handover 30 64                         # nothing is moved: there is no party 64
+handover 65535 30                      # nothing is moved
+totals
+dispatch 3                             # as it was
+island 6                               # of regions 1 and 2 only region 1 was left
+totals
+dispatch 2                             # RMPF itself
+dispatch 1                             # 0
+
+# ---- .. then the handovers first.
+metered meters.bin
+handover 9 27
+handover 27 30
+totals
+dispatch 3                             # the same as before any handover
+island 255                             # bits above region 4 are ignored: all regions are seen
+totals
+dispatch 3
+handover 30 9                          # back to party 9, with the energy of the others
+island 43                              # regions 0, 1 and 3, and a bit to ignore
+totals
+dispatch 3                             # the same as for the island above
+dispatch 31
+handover 41 41                         # nothing is moved
+island 8
+totals
+dispatch 9                             # RMPF itself: region 0 is not seen
+island 224                             # no region
+totals
+dispatch 31                            # 0
+dispatch 255                           # refused (2)
+metered meters.bin
+island 0                               # no region
+totals
+dispatch 3                             # 0
 """
 
 
@@ -315,6 +554,7 @@ def files():
         "trial.bin": trial(),
         "start.bin": sample_file(telemetry, START),
         "end.bin": sample_file(telemetry, END, cut=1_000),
+        **energy_files(),
     }
 
 

@@ -1,5 +1,6 @@
 -- Laws of sums over places counted from 0.
 use mathlib.Core.Path.{_≡_, refl, ap}
+use mathlib.Core.Bool.{Bool, true, false, cond}
 use mathlib.Core.Logic.{⊎-elim}
 use Prim.Native.Nat.{ℕ, zero, suc, _+_, _*_, _≤_, _<_}
 use native.Mathlib.Omega.{arith}
@@ -7,6 +8,8 @@ use lib.IntN.{ℤ, pos, negsuc, _+ℤ_, natAbs}
 use lib.Signed.{mag}
 use Rattle.std.proofs.shelf.Signed.{ints}
 use Rattle.std.proofs.shelf.Tests.{cases-lt}
+use Rattle.std.proofs.shelf.Ways.{tells}
+use lib.Dec.{eqb}
 use Rattle.foundation.specs.Sums.{sumTo, sumToℤ}
 
 pub sumTo-none : (f : ℕ → ℕ) → sumTo 0 f ≡ 0
@@ -54,6 +57,22 @@ sumTo-bound (suc n) b f h = omega (arith, sumTo-bound n b f (λ k l. h k (omega 
 -- one place is at most the whole
 pub sumTo-one-le : (n : ℕ) (f : ℕ → ℕ) (k : ℕ) → k < n → f k ≤ sumTo n f
 sumTo-one-le n f k h = omega (arith, sumTo-more k f, sumTo-mono (suc k) n f (omega arith))
+
+-- a sum that stands under a test
+pub sumTo-cond : (b : Bool) (n : ℕ) (f : ℕ → ℕ) → sumTo n (λ p. cond b (f p) 0) ≡ cond b (sumTo n f) 0
+sumTo-cond true n f = refl
+sumTo-cond false n f = sumTo-zero n (λ p. 0) (λ k l. refl)
+
+-- what stands at one place only
+pub sumTo-single : (n k v : ℕ) → k < n → sumTo n (λ p. cond (eqb p k) v 0) ≡ v
+sumTo-single zero k v l = absurd (omega arith)
+sumTo-single (suc n) k v l =
+    ⊎-elim
+    (λ (m : k < n). let other : cond (eqb n k) v 0 ≡ 0 = grind (arith, tells) in omega (arith, sumTo-more n (λ p. cond (eqb p k) v 0), sumTo-single n k v m, other))
+    (λ (m : n ≤ k).
+    let here : cond (eqb n k) v 0 ≡ v = grind (arith, tells) in
+    omega (arith, sumTo-more n (λ p. cond (eqb p k) v 0), sumTo-zero n (λ p. cond (eqb p k) v 0) (λ p q. grind (arith, tells)), here))
+    (cases-lt k n)
 
 pub sumToℤ-none : (f : ℕ → ℤ) → sumToℤ 0 f ≡ pos 0
 unfolding sumToℤ

@@ -1,4 +1,5 @@
 -- A refusal as operators read it: three numbers.
+use mathlib.Core.Bool.{Bool, true, false}
 use Prim.Native.Nat.{ℕ}
 use Rattle.std.specs.declared.option.Option.{Option}
 use Rattle.std.specs.declared.option.Option.the-variants.{Some, None}
@@ -53,3 +54,12 @@ told f = record { number = numberOf (f .refusal); layer = layerNumber (f .layer)
 abbrev pub refusal : {A : Type 0} → Result A Fault → Option Refused
 refusal (Ok a) = None
 refusal (Err f) = Some (told f)
+
+-- a refusal in a layer
+abbrev pub refusedIn : (layer number place : ℕ) → Refused
+refusedIn layer number place = record { number = number; layer = layer; place = place }
+
+-- that refusal, unless the test holds
+abbrev pub unlessIn : (layer : ℕ) → Bool → (number place : ℕ) → Option Refused
+unlessIn layer true number place = None
+unlessIn layer false number place = Some (refusedIn layer number place)

@@ -17,7 +17,7 @@ fn total(weights: &[u64]) -> u64
 }
 
 // ⌊amount × part / whole⌋, or 0 where whole is 0.
-fn portion(amount: u64, part: u64, whole: u64) -> u64
+pub fn portion(amount: u64, part: u64, whole: u64) -> u64
     requires { ⌜ part ≤ whole ⌝ }
     ensures { λ r. ⌜ r ≡ amount * part / whole ⌝ }
 {

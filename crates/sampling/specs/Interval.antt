@@ -1,6 +1,6 @@
 -- When an interval is refused, and when it is accepted.
 use mathlib.Core.Path.{_≡_}
-use mathlib.Core.Bool.{Bool, true, false, cond, not, _&&_}
+use mathlib.Core.Bool.{Bool, false, cond, not}
 use mathlib.Core.List.{List}
 use Prim.Native.Nat.{ℕ, zero, suc, _+_, _-_, _*_}
 use lib.Dec.{eqb, leb, ltb}
@@ -9,18 +9,16 @@ use lib.ListN.{length}
 use Rattle.std.specs.declared.option.Option.{Option}
 use Rattle.std.specs.declared.option.Option.the-variants.{Some, None}
 use Rattle.foundation.specs.declared.interval.SampleInterval.{SampleInterval}
-use Rattle.foundation.specs.Fault.{Refused}
+use Rattle.foundation.specs.Fault.{Refused, refusedIn, unlessIn}
 use Rattle.foundation.specs.First.{orElse, firstTo}
 use Rattle.sampling.specs.Records.{Fields, fieldsAt, intervalAt}
 
 -- a refusal in the layer of the samples
 abbrev pub inSamples : ℕ → ℕ → Refused
-inSamples number place = record { number = number; layer = 1; place = place }
+inSamples number place = refusedIn 1 number place
 
--- refusal `number` at a place, unless the test holds
 abbrev pub unless : Bool → ℕ → ℕ → Option Refused
-unless true number place = None
-unless false number place = Some (inSamples number place)
+unless test number place = unlessIn 1 test number place
 
 -- the first interval number that is above the last used one
 abbrev pub after : Option SampleInterval → ℕ

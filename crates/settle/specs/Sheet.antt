@@ -2,10 +2,11 @@
 use mathlib.Core.Path.{_≡_}
 use mathlib.Core.Bool.{Bool, cond}
 use mathlib.Core.List.{List, [], _∷_, _++_, map}
-use Prim.Native.Nat.{ℕ, _<_}
+use Prim.Native.Nat.{ℕ}
 use denote.Ref.{RefT}
 use lib.Chars.{codes}
 use lib.Dec.{eqb}
+use lib.ListN.{take, drop}
 use Rattle.std.specs.declared.option.Option.{Option}
 use Rattle.std.specs.declared.option.Option.the-variants.{None, Some}
 use Rattle.std.specs.declared.result.Result.{Result}
@@ -13,12 +14,11 @@ use Rattle.std.specs.declared.result.Result.the-variants.{Ok, Err}
 use Rattle.std.specs.Finds.{among}
 use Rattle.std.specs.Of.String.{string-bytes}
 use Rattle.std.specs.Of.Vec.{vec-items}
-use Rattle.std.specs.Options.{Cases}
-use Rattle.std.specs.Reads.{Numeral, value}
 use Rattle.settle.specs.declared.sheet.NoStep.{NoStep}
 use Rattle.settle.specs.declared.sheet.NoStep.the-variants.{Unknown, NoMemory}
 use Rattle.settle.specs.declared.sheet.Step.{Step}
-use Rattle.settle.specs.declared.sheet.Step.the-variants.{Units, UnitsFile, Samples, Publish}
+use Rattle.settle.specs.declared.sheet.Step.the-variants.{Units, UnitsFile, Samples, Publish, Metered, Profile, Island, Handover, Totals, Dispatch}
+use Rattle.settle.specs.Numbers.{Numbers, FiveTotals, PartyWeights}
 
 -- the line up to its comment, which begins with a '#' (35)
 unfoldable pub saidOf : List ℕ → List ℕ
@@ -41,32 +41,30 @@ wordsFrom w (b ∷ bs) = cond (blank b) (unlessEmpty w ++ wordsFrom [] bs) (word
 abbrev pub wordsOf : List ℕ → List (List ℕ)
 wordsOf text = wordsFrom [] text
 
--- the number that the word writes in digits, if it writes one below 256
-abbrev pub ReadsByte : List ℕ → Option ℕ → Type 0
-ReadsByte word r = Cases r (Numeral 10 word → value 10 word < 256 → ⊥) (λ n. Numeral 10 word × (n ≡ value 10 word) × (n < 256))
+-- what words are parsed to: something that they ask for (P of what x holds), or that they ask for nothing; or there was no memory
+abbrev pub ParsedAs : {T U : Type 0} → (T → U) → (U → Type 0) → Result T NoStep → Type 0
+ParsedAs held P (Ok x) = P (held x)
+ParsedAs {U} held P (Err Unknown) = (u : U) → P u → ⊥
+ParsedAs held P (Err NoMemory) = Unit {0}
 
--- what words are parsed to: something that they ask for (P), or that they ask for nothing; or there was no memory
 abbrev pub Parsed : {T : Type 0} → (T → Type 0) → Result T NoStep → Type 0
-Parsed P (Ok x) = P x
-Parsed {T} P (Err Unknown) = (x : T) → P x → ⊥
-Parsed P (Err NoMemory) = Unit {0}
+Parsed P r = ParsedAs (λ x. x) P r
 
 abbrev pub texts : List (RefT (List ℕ)) → List (List ℕ)
 texts words = map (λ word. word .now) words
 
--- each word writes the number at its place
-abbrev pub Bytes : List (List ℕ) → List ℕ → Type 0
-Bytes [] [] = Unit {0}
-Bytes [] (n ∷ ns) = ⊥
-Bytes (w ∷ ws) [] = ⊥
-Bytes (w ∷ ws) (n ∷ ns) = ReadsByte w (Some n) × Bytes ws ns
-
 -- the keyword and the words after it ask for the step
 abbrev pub Asks : List ℕ → List (List ℕ) → Step → Type 0
-Asks keyword words (Units owners) = (keyword ≡ codes "units") × Bytes words (vec-items owners)
+Asks keyword words (Units owners) = (keyword ≡ codes "units") × Numbers 255 words (vec-items owners)
 Asks keyword words (UnitsFile name) = (keyword ≡ codes "units-file") × (words ≡ string-bytes name ∷ [])
 Asks keyword words (Samples name) = (keyword ≡ codes "samples") × (words ≡ string-bytes name ∷ [])
 Asks keyword words (Publish anyway) = (keyword ≡ codes "publish") × (words ≡ cond anyway (codes "anyway" ∷ []) [])
+Asks keyword words (Metered name) = (keyword ≡ codes "metered") × (words ≡ string-bytes name ∷ [])
+Asks keyword words (Profile totals weights) = (keyword ≡ codes "profile") × (FiveTotals (take 5 words) totals × PartyWeights (drop 5 words) weights)
+Asks keyword words (Island set) = (keyword ≡ codes "island") × Numbers 255 words (set ∷ [])
+Asks keyword words (Handover leaver successor) = (keyword ≡ codes "handover") × Numbers 65535 words (leaver ∷ successor ∷ [])
+Asks keyword words Totals = (keyword ≡ codes "totals") × (words ≡ [])
+Asks keyword words (Dispatch set) = (keyword ≡ codes "dispatch") × Numbers 255 words (set ∷ [])
 
 -- the words of a line ask for the step, or there are no words and no step
 abbrev pub AsksAll : List (List ℕ) → Option Step → Type 0

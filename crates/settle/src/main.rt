@@ -1,9 +1,11 @@
 // `settle SHEET`: carries out the steps of a run sheet, and prints what came of them.
 mod failure;
 mod files;
+mod numbers;
 mod report;
 mod run;
 mod sheet;
+mod steps;
 mod tally;
 
 use failure::Failure;
@@ -21,6 +23,14 @@ by blanks or tabs. Names of files are relative to the sheet's folder.
   samples NAME      offers the sample intervals of a file one after another
   publish           publishes the factors, unless that is refused
   publish anyway    publishes the factors, also where that is refused
+  metered NAME      takes the energies from the metered records of a file
+  profile T T T T T W W ..
+                    takes the energies from the totals of the five regions, each divided over
+                    the weights of parties 0, 1, .. (at most 64; 0 for a party without one)
+  island S          keeps the energies in the regions of the set S, a number from 0 to 255
+  handover L S      adds the energies of party L to those of party S
+  totals            prints the energy of each region, and their sum
+  dispatch S        prints the dispatch figure of the set S, from the last factors published
 ";
 
 fn start(rt: &LibcRuntime) -> Result<(), Failure> {

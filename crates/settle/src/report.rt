@@ -49,18 +49,21 @@ impl fmt::Display for Row as RowDisplay {
     }
 }
 
-fn table(out: &mut impl Write, factors: &Factors) -> io::Result<()> {
+fn heading(out: &mut impl Write) -> io::Result<()> {
     writeln!(out, "Contribution factors (millionths)")?;
     writeln!(
         out,
         "{:<16}{:>6}{:>10}{:>10}",
         "party", "units", "factor", "percent"
-    )?;
-    let residual = Row {
-        units: u64::from(factors.units(RESIDUAL)),
-        factor: u64::from(factors.residual()),
+    )
+}
+
+// A row for each party that has a unit; answers their sum.
+fn parties(out: &mut impl Write, factors: &Factors) -> io::Result<Row> {
+    let mut sum = Row {
+        units: 0,
+        factor: 0,
     };
-    let mut sum = residual;
     for party in 0..PARTIES {
         let row = Row {
             units: u64::from(factors.units(party)),
@@ -71,21 +74,38 @@ fn table(out: &mut impl Write, factors: &Factors) -> io::Result<()> {
             sum = sum.and(row);
         }
     }
-    writeln!(out, "{:<16}{residual}", "residual (RMPF)")?;
-    writeln!(out, "{:<16}{sum}", "sum")
+    Ok(sum)
 }
 
-fn counts(out: &mut impl Write, tally: &Tally) -> io::Result<()> {
-    let used = tally.used;
-    let refused = tally.refused;
-    writeln!(out, "Intervals used: {used}")?;
-    writeln!(out, "Intervals refused: {refused}")?;
+fn table(out: &mut impl Write, factors: &Factors) -> io::Result<()> {
+    heading(out)?;
+    let parties = parties(out, factors)?;
+    let residual = Row {
+        units: u64::from(factors.units(RESIDUAL)),
+        factor: u64::from(factors.residual()),
+    };
+    let sum = parties.and(residual);
+    writeln!(
+        out,
+        "{:<16}{residual}\n{:<16}{sum}",
+        "residual (RMPF)", "sum"
+    )
+}
+
+fn reasons(out: &mut impl Write, tally: &Tally) -> io::Result<()> {
     for (number, occurred) in tally.occurred.iter() {
         let refusal = occurred.refusal;
         let times = occurred.times;
         writeln!(out, "  {number} ({refusal}): {times}")?;
     }
     Ok(())
+}
+
+fn counts(out: &mut impl Write, tally: &Tally) -> io::Result<()> {
+    let used = tally.used;
+    let refused = tally.refused;
+    writeln!(out, "Intervals used: {used}\nIntervals refused: {refused}")?;
+    reasons(out, tally)
 }
 
 pub(crate) fn print(

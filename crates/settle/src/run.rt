@@ -12,11 +12,13 @@ use crate::sheet;
 use crate::sheet::Line;
 use crate::sheet::Step;
 use crate::tally::Tally;
+use energy::figures::Figures;
 use foundation::fault::FaultDisplay;
 use sampling::factors::Factors;
 use sampling::reader::RECORD_BYTES;
 use sampling::state::Sampling;
 use std::alloc::Global;
+use std::fmt::Display;
 use std::fs;
 use std::fs::File;
 use std::io;
@@ -27,6 +29,8 @@ use std::mem;
 use std::path::Path;
 use std::path::PathBuf;
 
+mod energies;
+
 // The register takes 256 owners at most; one more shows that there are too many.
 const OWNERS_READ: usize = 257;
 
@@ -36,6 +40,7 @@ struct Run {
     out: BufWriter<Stdout>,
     sampling: Sampling,
     published: Option<Factors>,
+    energies: Figures,
     tally: Tally,
 }
 
@@ -54,6 +59,7 @@ impl Run {
             out: BufWriter::new(rt.stdout()),
             sampling: Sampling::open(heap),
             published: None,
+            energies: Figures::none(),
             tally: Tally::new(heap),
         }
     }
@@ -70,34 +76,44 @@ impl Run {
             Step::UnitsFile(name) => self.register_file(rt, number, name.as_str()),
             Step::Samples(name) => self.offer_file(rt, number, name.as_str()),
             Step::Publish { anyway } => self.publish(rt, number, *anyway),
+            Step::Metered(name) => self.meter_file(rt, number, name.as_str()),
+            Step::Profile { totals, weights } => self.profile(number, *totals, *weights),
+            Step::Island(set) => self.island(number, *set),
+            Step::Handover { leaver, successor } => self.hand_over(number, *leaver, *successor),
+            Step::Totals => self.totals(number),
+            Step::Dispatch(set) => self.dispatch(number, *set),
         }
+    }
+
+    fn say(&mut self, line: usize, what: impl Display + Drop) -> Result<(), Failure> {
+        writeln!(self.out, "line {line}: {what}")?;
+        Ok(())
     }
 
     fn register(&mut self, line: usize, owners: &[u8]) -> Result<(), Failure> {
         match self.sampling.register(owners) {
             Ok(()) => {
                 let units = self.sampling.units();
-                writeln!(self.out, "line {line}: {units} units registered")?;
+                self.say(line, format_args!("{units} units registered"))
             }
-            Err(fault) => writeln!(self.out, "line {line}: {fault}")?,
+            Err(fault) => self.say(line, fault),
         }
-        Ok(())
     }
 
     fn register_file(&mut self, rt: &LibcRuntime, line: usize, name: &str) -> Result<(), Failure> {
         let mut owners = [0u8; OWNERS_READ];
-        match self.read_owners(rt, name, &mut owners) {
+        match self.read(rt, name, &mut owners) {
             Ok(count) => self.register(line, &owners[0..count]),
             Err(error) => Err(unreadable(rt.alloc(), line, name, error)),
         }
     }
 
-    // Reads what is wanted of a file of owners, and says how many bytes that is.
-    fn read_owners(&self, rt: &LibcRuntime, name: &str, owners: &mut [u8]) -> io::Result<usize>
-        ensures { λ r. ⌜ made r (λ n. n ≤ length (now (owners .entry))) ⌝ }
+    // Reads of a file what the buffer has room for, and says how many bytes that is.
+    fn read(&self, rt: &LibcRuntime, name: &str, buffer: &mut [u8]) -> io::Result<usize>
+        ensures { λ r. ⌜ made r (λ n. n ≤ length (now (buffer .entry))) ⌝ }
     {
         let mut file = self.open(rt, name)?;
-        fill(&mut file, owners)
+        fill(&mut file, buffer)
     }
 
     // Offers one interval, and says whether it was used.
@@ -115,10 +131,7 @@ impl Run {
             }
             Err(fault) => {
                 self.tally.note_refused(fault.refusal)?;
-                writeln!(
-                    self.out,
-                    "line {line}: {fault}, interval {interval} of {name}"
-                )?;
+                self.say(line, format_args!("{fault}, interval {interval} of {name}"))?;
                 Ok(false)
             }
         }
@@ -126,10 +139,20 @@ impl Run {
 
     fn offer_file(&mut self, rt: &LibcRuntime, line: usize, name: &str) -> Result<(), Failure> {
         let heap = rt.alloc();
-        let mut file = match self.open(rt, name) {
-            Ok(file) => file,
-            Err(error) => return Err(unreadable(heap, line, name, error)),
-        };
+        match self.open(rt, name) {
+            Ok(file) => self.offer_all(heap, line, name, file),
+            Err(error) => Err(unreadable(heap, line, name, error)),
+        }
+    }
+
+    // Offers what is left of a file, piece by piece.
+    fn offer_all(
+        &mut self,
+        heap: Global,
+        line: usize,
+        name: &str,
+        mut file: File,
+    ) -> Result<(), Failure> {
         let units = self.sampling.units();
         let mut buffer = vec![in heap; 0u8; interval_bytes(units)]?;
         let mut used = 0u64;
@@ -153,16 +176,15 @@ impl Run {
             }
         }
         let offered = used.saturating_add(refused);
-        writeln!(
-            self.out,
-            "line {line}: {name}: {offered} intervals offered, {used} used, {refused} refused"
-        )?;
-        Ok(())
+        self.say(
+            line,
+            format_args!("{name}: {offered} intervals offered, {used} used, {refused} refused"),
+        )
     }
 
     fn publish(&mut self, rt: &LibcRuntime, line: usize, anyway: bool) -> Result<(), Failure> {
         if let Err(fault) = self.sampling.ready() {
-            writeln!(self.out, "line {line}: {fault}")?;
+            self.say(line, fault)?;
             if !anyway {
                 return Ok(());
             }
@@ -170,11 +192,10 @@ impl Run {
         let used = self.sampling.used();
         let sampling = mem::replace(&mut self.sampling, Sampling::open(rt.alloc()));
         self.published = Some(sampling.publish());
-        writeln!(
-            self.out,
-            "line {line}: factors published from {used} intervals"
-        )?;
-        Ok(())
+        self.say(
+            line,
+            format_args!("factors published from {used} intervals"),
+        )
     }
 
     fn finish(&mut self) -> Result<(), Failure> {
@@ -192,15 +213,19 @@ fn unreadable(heap: Global, line: usize, name: &str, error: io::Error) -> Failur
     }
 }
 
+fn read_sheet(rt: &LibcRuntime, sheet: &str) -> Result<String, Failure> {
+    match fs::read_to_string(rt, sheet) {
+        Ok(text) => Ok(text),
+        Err(error) => {
+            let name = String::from_str(rt.alloc(), sheet)?;
+            Err(Failure::Sheet { name, error })
+        }
+    }
+}
+
 pub(crate) fn carry_out(rt: &LibcRuntime, sheet: &str) -> Result<(), Failure> {
     let heap = rt.alloc();
-    let text = match fs::read_to_string(rt, sheet) {
-        Ok(text) => text,
-        Err(error) => {
-            let name = String::from_str(heap, sheet)?;
-            return Err(Failure::Sheet { name, error });
-        }
-    };
+    let text = read_sheet(rt, sheet)?;
     let lines = sheet::lines(heap, text.as_str())?;
     let folder = Path::new(sheet).parent().unwrap_or(Path::new(""));
     let mut run = Run::new(rt, folder.to_path_buf(heap)?);

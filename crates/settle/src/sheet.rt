@@ -1,16 +1,13 @@
 // The run sheet: one step a line.
 ghost use mathlib.Core.Path.{_≡_};
-ghost use mathlib.Core.Bool.{cond};
-ghost use mathlib.Core.List.{[], _∷_};
-ghost use lib.Chars.{codes};
-ghost use Rattle.std.specs.Of.String.{string-bytes};
 ghost use Rattle.std.specs.Of.Vec.{vec-items};
 ghost use Rattle.std.specs.Vec.{made};
 ghost use Rattle.settle.specs.declared.sheet.NoStep.the-variants.{NoMemory};
-ghost use Rattle.settle.specs.Sheet.{saidOf, wordsOf, ReadsByte, Parsed, Bytes, texts, Asks, AsksAll};
+ghost use Rattle.settle.specs.Sheet.{saidOf, wordsOf, Parsed, texts, AsksAll};
 use crate::failure::Failure;
 use crate::failure::FailureFromAlloc;
 use crate::failure::FailureFromRefused;
+use crate::steps::asked;
 use std::alloc::AllocError;
 use std::alloc::Global;
 use std::alloc::Refused;
@@ -20,7 +17,21 @@ pub(crate) enum Step {
     Units(Vec<u8>),
     UnitsFile(String),
     Samples(String),
-    Publish { anyway: bool },
+    Publish {
+        anyway: bool,
+    },
+    Metered(String),
+    Profile {
+        totals: [u32; 5],
+        weights: [u16; 64],
+    },
+    Island(u8),
+    Handover {
+        leaver: u16,
+        successor: u16,
+    },
+    Totals,
+    Dispatch(u8),
 }
 
 #[derive(Drop)]
@@ -35,7 +46,7 @@ pub(crate) enum NoStep {
     NoMemory,
 }
 
-impl From<AllocError> for NoStep as NoStepFromAlloc {
+pub(crate) impl From<AllocError> for NoStep as NoStepFromAlloc {
     ghost converts = { λ _ r. r ≡ NoMemory };
 
     fn from(_error: AllocError) -> NoStep {
@@ -43,7 +54,7 @@ impl From<AllocError> for NoStep as NoStepFromAlloc {
     }
 }
 
-impl<T: Drop> From<Refused<T>> for NoStep as NoStepFromRefused {
+pub(crate) impl<T: Drop> From<Refused<T>> for NoStep as NoStepFromRefused {
     ghost converts = { λ _ r. r ≡ NoMemory };
 
     fn from(_error: Refused<T>) -> NoStep {
@@ -71,63 +82,6 @@ fn words<'a>(heap: Global, text: &'a str) -> Result<Vec<&'a str>, AllocError>
         }
     }
     Ok(words)
-}
-
-// A number from 0 to 255 in digits alone: `parse` would take a sign.
-fn byte(word: &str) -> Option<u8>
-    ensures { λ r. ⌜ ReadsByte (now (word .entry)) r ⌝ }
-{
-    if word.starts_with('+') {
-        return None;
-    }
-    word.parse::<u8>().ok()
-}
-
-fn bytes(heap: Global, words: &[&str]) -> Result<Vec<u8>, NoStep>
-    ensures { λ r. ⌜ Parsed (λ v. Bytes (texts (now (words .entry))) (vec-items v)) r ⌝ }
-{
-    let mut bytes = Vec::new(heap);
-    for word in words {
-        match byte(*word) {
-            Some(byte) => bytes.push(byte)?,
-            None => return Err(NoStep::Unknown),
-        }
-    }
-    Ok(bytes)
-}
-
-// The one word that follows a keyword.
-fn name(heap: Global, words: &[&str]) -> Result<String, NoStep>
-    ensures { λ r. ⌜ Parsed (λ name. texts (now (words .entry)) ≡ string-bytes name ∷ []) r ⌝ }
-{
-    match words {
-        [name] => Ok(String::from_str(heap, *name)?),
-        _ => Err(NoStep::Unknown),
-    }
-}
-
-fn anyway(words: &[&str]) -> Result<bool, NoStep>
-    ensures { λ r. ⌜ Parsed (λ b. texts (now (words .entry)) ≡ cond b (codes "anyway" ∷ []) []) r ⌝ }
-{
-    match words {
-        [] => Ok(false),
-        ["anyway"] => Ok(true),
-        _ => Err(NoStep::Unknown),
-    }
-}
-
-fn asked(heap: Global, keyword: &str, words: &[&str]) -> Result<Step, NoStep>
-    ensures { λ r. ⌜ Parsed (λ step. Asks (now (keyword .entry)) (texts (now (words .entry))) step) r ⌝ }
-{
-    match keyword {
-        "units" => Ok(Step::Units(bytes(heap, words)?)),
-        "units-file" => Ok(Step::UnitsFile(name(heap, words)?)),
-        "samples" => Ok(Step::Samples(name(heap, words)?)),
-        "publish" => Ok(Step::Publish {
-            anyway: anyway(words)?,
-        }),
-        _ => Err(NoStep::Unknown),
-    }
 }
 
 // The step that a line asks for; none where it has no words.
@@ -177,6 +131,21 @@ mod tests {
             "samples day1.bin day2.bin",
             "publish now",
             "publish anyway now",
+            "metered",
+            "metered a.bin b.bin",
+            "profile 1 2 3 4",
+            "profile 1 2 3 4 4294967296",
+            "profile 1 2 3 4 5 65536",
+            "profile 0 0 0 0 0 1 1 1 1 1 1 1 1 1 1 1 1 1 1 1 1 1 1 1 1 1 1 1 1 1 1 1 1 1 1 1 1 1 1 1 1 1 1 1 1 1 1 1 1 1 1 1 1 1 1 1 1 1 1 1 1 1 1 1 1 1 1 1 1 1",
+            "island",
+            "island 256",
+            "island 1 2",
+            "handover 1",
+            "handover 1 65536",
+            "handover 1 2 3",
+            "totals 0",
+            "dispatch",
+            "dispatch -1",
         ];
         for line in lines.iter() {
             check(matches!(parse(heap, *line), Err(NoStep::Unknown))).note(*line)?;
@@ -187,23 +156,39 @@ mod tests {
     #[test]
     fn what_is_a_step(rt: LibcRuntime) -> Result<(), Fail> {
         let heap = rt.alloc();
+        let lines = [
+            "units",
+            "units-file a",
+            "samples day1.bin",
+            "publish",
+            "publish anyway",
+            "metered a",
+            "profile 0 0 0 0 0",
+            "island 255",
+            "handover 65535 0",
+            "totals",
+            "dispatch 0",
+        ];
+        for line in lines.iter() {
+            check(matches!(parse(heap, *line), Ok(Some(_)))).note(*line)?;
+        }
+        Ok(())
+    }
+
+    #[test]
+    fn numbers_of_steps(rt: LibcRuntime) -> Result<(), Fail> {
+        let heap = rt.alloc();
         match parse(heap, "\tunits 0  255 # the first and the last")? {
             Some(Step::Units(owners)) => check_eq(owners.as_slice(), [0, 255].as_slice())?,
             _ => return Err(Fail::new("no units")),
         }
-        match parse(heap, "samples day1.bin")? {
-            Some(Step::Samples(name)) => check_eq(name.as_str(), "day1.bin")?,
-            _ => return Err(Fail::new("no samples")),
+        match parse(heap, "profile 4294967295 0 1 00 2 65535 7")? {
+            Some(Step::Profile { totals, weights }) => {
+                check_eq(totals, [4_294_967_295, 0, 1, 0, 2])?;
+                check(weights[0] == 65_535 && weights[1] == 7 && weights[2] == 0)
+            }
+            _ => Err(Fail::new("no profile")),
         }
-        check(matches!(parse(heap, "units-file a")?, Some(Step::UnitsFile(_))))?;
-        check(matches!(
-            parse(heap, "publish")?,
-            Some(Step::Publish { anyway: false })
-        ))?;
-        check(matches!(
-            parse(heap, "publish anyway")?,
-            Some(Step::Publish { anyway: true })
-        ))
     }
 
     #[test]

@@ -1,0 +1,4 @@
+pub mod Divisions
+pub mod Readings
+pub mod Tables
+pub mod Totals
