@@ -35,13 +35,14 @@ fn put(bytes: &mut Vec<u8>, at: usize, value: u8) {
     }
 }
 
-// A record's kWh: 40,000,000 is 02 62 5A 00.
-fn put_limit(bytes: &mut Vec<u8>, at: usize) {
-    if at < 1_000 {
-        put(bytes, at + 4, 2);
-        put(bytes, at + 5, 98);
-        put(bytes, at + 6, 90);
-        put(bytes, at + 7, 0);
+// A record's kWh, in its last four bytes.
+fn put_kwh(bytes: &mut Vec<u8>, record: usize, kwh: u32) {
+    if record < 1_000 {
+        let at = RECORD * record + 4;
+        put(bytes, at, (kwh / 16_777_216) as u8);
+        put(bytes, at + 1, (kwh / 65_536 % 256) as u8);
+        put(bytes, at + 2, (kwh / 256 % 256) as u8);
+        put(bytes, at + 3, (kwh % 256) as u8);
     }
 }
 
@@ -96,17 +97,16 @@ fn lengths_of_records(rt: LibcRuntime) -> Result<(), Fail> {
 #[test]
 fn the_limit_of_all_energies(rt: LibcRuntime) -> Result<(), Fail> {
     let heap = rt.alloc();
-    for place in [0usize, 2, 4] {
+    // each record before has 10 kWh, so that this one passes the limit by one
+    for (place, above) in [(0usize, 40_000_001u32), (2, 39_999_981), (4, 39_999_961)] {
         let mut bytes = five(heap)?;
-        put_limit(&mut bytes, RECORD * place);
-        // the first to pass the limit is the record itself, or the one after the first
-        let first = if place == 0 { 1 } else { place };
-        check(is_refused(Metered::check(bytes.as_slice()), 19, first))?;
+        put_kwh(&mut bytes, place, above);
+        check(is_refused(Metered::check(bytes.as_slice()), 19, place))?;
         check(sum(&Metered::new(bytes.as_slice())) == 0)?;
     }
+    // the limit itself, in the last record
     let mut bytes = five(heap)?;
-    put_limit(&mut bytes, 0);
-    bytes.truncate(8);
+    put_kwh(&mut bytes, 4, 39_999_960);
     check(Metered::check(bytes.as_slice()).is_ok())?;
     check(sum(&Metered::new(bytes.as_slice())) == 40_000_000)
 }
@@ -116,12 +116,12 @@ fn which_fault_comes_first(rt: LibcRuntime) -> Result<(), Fail> {
     let heap = rt.alloc();
     // in one record 2 comes before 19
     let mut bytes = five(heap)?;
-    put_limit(&mut bytes, 24);
+    put_kwh(&mut bytes, 3, 40_000_000);
     put(&mut bytes, 24 + 2, 5);
     check(is_refused(Metered::check(bytes.as_slice()), 2, 3))?;
     // in two records the earlier fault
     let mut bytes = five(heap)?;
-    put_limit(&mut bytes, 8);
+    put_kwh(&mut bytes, 1, 40_000_000);
     put(&mut bytes, 24 + 3, 9);
     check(is_refused(Metered::check(bytes.as_slice()), 19, 1))
 }
