@@ -10,8 +10,8 @@ loop-k-init c =
     (sym (sum_to_none w), sym (reached_none c.args.amount (length c.args.weights.now) w), λ i h. absurd (omega arith))
 
 -- no sum of the first weights is above that of all
-pub overflow-add-reached : goal.overflow-add-reached
-overflow-add-reached c =
+pub overflow_add-reached : goal.overflow_add-reached
+overflow_add-reached c =
     let w = listed c.args.weights.now in
     let k = c.loop-k.k in
     omega (arith, sum_to_more k w, sum_to_mono (suc k) (length c.args.weights.now) w (omega arith))
@@ -29,8 +29,8 @@ next-is c =
     let so_far : c.loop-k.reached + w c.loop-k.k ≡ sum_to (suc c.loop-k.k) w = omega (arith, sum_to_more c.loop-k.k w) in
     cc so_far
 
-pub overflow-sub-shares : goal.overflow-sub-shares
-overflow-sub-shares c =
+pub overflow_sub-shares : goal.overflow_sub-shares
+overflow_sub-shares c =
     omega (arith, next-is c, reached_le c.args.amount (length c.args.weights.now) (listed c.args.weights.now) c.loop-k.k)
 
 pub loop-k-preserved : goal.loop-k-preserved

@@ -2,8 +2,8 @@ use Rattle.std.proofs.Common.{◌*◌, ◌/◌, ◌^◌, ◌<◌, ◌≤◌, div
 use Rattle.foundation.proofs.division.portion.Goals as goal
 
 -- a part of the amount is not above it
-pub overflow-cast-result-4 : goal.overflow-cast-result-4
-overflow-cast-result-4 c =
+pub overflow_cast-result-4 : goal.overflow_cast-result-4
+overflow_cast-result-4 c =
     let some : 0 < c.args.whole = omega arith in
     let fits : c.args.amount < 2 ^ 64 = omega arith in
     let less : c.args.amount * c.args.whole < 2 ^ 64 * c.args.whole = mul-lt-mul_of_pos_right fits some in

@@ -7,8 +7,8 @@ pub loop-weight-init : goal.loop-weight-init
 loop-weight-init c = sym (sum_to_none (listed c.args.weights.now))
 
 -- no sum of the first weights is above that of all
-pub overflow-add-sum : goal.overflow-add-sum
-overflow-add-sum c =
+pub overflow_add-sum : goal.overflow_add-sum
+overflow_add-sum c =
     let w = listed c.args.weights.now in
     let i = c.loop-weight.weight-index in
     omega (arith, sum_to_more i w, sum_to_mono (suc i) (length c.args.weights.now) w (omega arith))
