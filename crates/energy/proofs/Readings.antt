@@ -1,9 +1,9 @@
 -- Laws of metered records.
-use Rattle.std.proofs.Common.{◌≡◌, ℕ, suc, ◌+◌, ◌*◌, ◌/◌, ◌%◌, ◌<◌, ◌≤◌, Bool, true, false, cond, ◌&&◌, eqb, leb, List, length, Some, None, Option, sym, refl, ap, ◌∙◌, add-one, arith}
+use Rattle.std.proofs.Common.{◌≡◌, ℕ, suc, ◌+◌, ◌/◌, ◌%◌, ◌<◌, ◌≤◌, Bool, true, false, cond, ◌&&◌, eqb, leb, List, length, Some, None, Option, sym, refl, ap, ◌∙◌, add-one, arith}
 use borrow.Author.Tests.{true-leb}
 use Rattle.std.proofs.lemmas.Bool.Decides.{nat_tests}
 use Rattle.foundation.specs.Fault.{Refused}
-use Rattle.foundation.specs.First.{first_to, or_else, silent}
+use Rattle.foundation.specs.First.{first_to}
 use Rattle.foundation.specs.Sums.{sum_to}
 use Rattle.foundation.proofs.First.{first_to_all, first_to_at, first_to_silent, or_else_left, or_else_right, some_none}
 use Rattle.foundation.proofs.Sums.{sum_to_none, sum_to_more}

@@ -1,6 +1,6 @@
 -- A profile's figures add up to its totals, or to nothing where nobody has a weight.
-use Rattle.std.specs.Prelude.{◌≡◌, ℕ, ◌<◌, ◌≤◌, true, false, List, ◌==◌, ◌≢◌, refl}
-use Rattle.std.proofs.Common.{sym, ap, ◌∙◌, ⊎_elim, arith, true-eqb, false-eqb}
+use Rattle.std.specs.Prelude.{◌≡◌, ℕ, ◌<◌, ◌≤◌, true, false, List, ◌==◌, ◌≢◌}
+use Rattle.std.proofs.Common.{sym, ◌∙◌, ⊎_elim, arith, true-eqb, false-eqb}
 use Rattle.std.proofs.lemmas.Bool.{cases_lt}
 use Rattle.foundation.specs.Division.{share}
 use Rattle.foundation.specs.Sums.{listed, sum_to}

@@ -1,5 +1,5 @@
 -- What the figures of an energy source mean, and how they are seen, totalled and changed.
-use Rattle.std.specs.Prelude.{◌≡◌, ℕ, ◌+◌, ◌/◌, ◌%◌, ◌^◌, Bool, cond, not, ◌&&◌, ◌==◌, nat_lt}
+use Rattle.std.specs.Prelude.{ℕ, ◌+◌, ◌/◌, ◌%◌, ◌^◌, Bool, cond, not, ◌&&◌, ◌==◌, nat_lt}
 use Rattle.foundation.specs.Sums.{sum_to}
 
 -- the answer for a party and a region: nothing out of range

@@ -1,5 +1,5 @@
 -- Metered records: 8 bytes each, of party, region, a zero byte and kWh.
-use Rattle.std.specs.Prelude.{◌≡◌, ℕ, suc, ◌+◌, ◌*◌, ◌/◌, ◌%◌, Bool, cond, ◌&&◌, List, length, Some, Option, ◌==◌, nat_le, slice_index}
+use Rattle.std.specs.Prelude.{ℕ, ◌+◌, ◌*◌, ◌/◌, ◌%◌, Bool, cond, ◌&&◌, List, length, Some, Option, ◌==◌, nat_le, slice_index}
 use Rattle.foundation.specs.Fault.{Refused, refused_in, unless_in}
 use Rattle.foundation.specs.First.{first_to, or_else, silent}
 use Rattle.foundation.specs.Sums.{sum_to}

@@ -1,4 +1,6 @@
 // Energies: what every source means, the sources, and the dispatch figure.
+#![tactic(auto)]
+
 pub mod dispatch;
 pub mod figures;
 pub mod handover;

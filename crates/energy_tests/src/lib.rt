@@ -1,3 +1,5 @@
+#![tactic(auto)]
+
 // The refusals of energies, and sources piled on one another, run as tests.
 #[cfg(test)]
 mod tests;

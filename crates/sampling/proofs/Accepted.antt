@@ -7,7 +7,7 @@ use Rattle.foundation.specs.First.{first_to, or_else, silent, all_to}
 use Rattle.foundation.proofs.First.{silent_or_else, silent_first_to, all_to_none, all_to_more, all_to_eq, some_none, or_else_left, or_else_right, first_to_silent}
 use Rattle.sampling.specs.Accepted.{fields_meet, record_meets, meets}
 use Rattle.sampling.specs.Interval.{in_samples, unless, is_mark, value_fault, fields_fault, record_fault, interval_fault}
-use Rattle.sampling.specs.Records.{Fields, Inside, fields_at, interval_at, value_at}
+use Rattle.sampling.specs.Records.{Fields, Inside, fields_at, interval_at}
 
 silent_unless : (t : Bool) (n r : ℕ) → silent (unless t n r) ≡ t
 silent_unless true n r = refl

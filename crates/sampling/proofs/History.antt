@@ -1,17 +1,16 @@
 -- Each call leads from what a sampling has gone through to that with the call added.
-use Rattle.std.proofs.Common.{◌≡◌, ℕ, suc, ◌+◌, ◌<◌, ◌≤◌, Bool, true, false, cond, ◌||◌, eqb, ltb, List, [], ◌∷◌, map, length, get_or, ℤ, pos, ◌+ℤ◌, Some, None, vec_items, vec_len, Option, sym, refl, ap, ◌∙◌, subst, arith, lit<}
+use Rattle.std.proofs.Common.{◌≡◌, ℕ, suc, ◌<◌, Bool, cond, ◌||◌, eqb, List, [], ◌∷◌, map, length, ◌+ℤ◌, Some, None, vec_items, vec_len, Option, sym, ap, ◌∙◌, arith, lit<}
 use Rattle.std.proofs.lemmas.List.{length-map}
 use Rattle.foundation.specs.Fault.{Refused}
 use Rattle.foundation.specs.First.{silent, all_to}
-use Rattle.foundation.specs.Sums.{listed, sum_to, sum_to_int}
-use Rattle.foundation.proofs.First.{all_to_eq, silent_none}
+use Rattle.foundation.specs.Sums.{sum_to, sum_to_int}
+use Rattle.foundation.proofs.First.{all_to_eq}
 use Rattle.foundation.proofs.Shares.{share_eq}
 use Rattle.foundation.proofs.Sums.{sum_to_eq, sum_to_int_eq}
 use Rattle.sampling.specs.declared.category.Category.{Category}
 use Rattle.sampling.specs.declared.category.Category.TheVariants.{RaiseNotEnabled, RaiseEnabled, LowerNotEnabled, LowerEnabled}
 use Rattle.sampling.specs.declared.factors.Factors.{Factors}
 use Rattle.sampling.specs.declared.state.Sampling.{Sampling}
-use Rattle.sampling.specs.declared.unit.Unit.{Unit}
 use Rattle.sampling.specs.Accepted.{meets}
 use Rattle.sampling.specs.Factors.{Published}
 use Rattle.sampling.specs.History.{Event, Gone, registered, unregistered, offered, owners_in, accepted, next, total_in, sampled_in}

@@ -1,9 +1,9 @@
 -- Bounds and laws of subtotals and weights.
-use Rattle.std.proofs.Common.{◌≡◌, ℕ, suc, ◌+◌, ◌*◌, ◌/◌, ◌^◌, ◌<◌, ◌≤◌, Bool, true, false, cond, eqb, List, length, set, ℤ, pos, negsuc, neg_ℤ, nat_abs, ◌<ℤ◌, sym, refl, ap, ◌∙◌, div-le_self, arith}
+use Rattle.std.proofs.Common.{◌≡◌, ℕ, suc, ◌+◌, ◌*◌, ◌/◌, ◌^◌, ◌<◌, ◌≤◌, Bool, true, false, cond, eqb, List, length, set, ℤ, pos, negsuc, nat_abs, ◌<ℤ◌, refl, ap, ◌∙◌, div-le_self, arith}
 use Rattle.std.proofs.lemmas.List.Edits.{fill_by_more}
 use Rattle.std.proofs.lemmas.Int.{ints}
 use Rattle.foundation.specs.Sums.{listed, sum_to_int}
-use Rattle.foundation.proofs.Sums.{sum_to_int_abs, sum_to_int_eq}
+use Rattle.foundation.proofs.Sums.{sum_to_int_abs}
 use Rattle.sampling.specs.declared.category.Category.{Category}
 use Rattle.sampling.specs.declared.category.Category.TheVariants.{RaiseNotEnabled, RaiseEnabled, LowerNotEnabled, LowerEnabled}
 use Rattle.sampling.specs.declared.unit.Unit.{Unit}

@@ -1,5 +1,5 @@
 -- An interval is added to one unit after the other.
-use Rattle.std.proofs.Common.{◌≡◌, ℕ, zero, suc, ◌+◌, ◌*◌, ◌<◌, ◌≤◌, Bool, ◌≢◌, List, [], ◌∷◌, map, length, get_or, set, ℤ, pos, ◌+ℤ◌, nat_abs, sym, refl, ap, ◌∙◌, ⊎_elim, arith}
+use Rattle.std.proofs.Common.{◌≡◌, ℕ, zero, suc, ◌+◌, ◌<◌, ◌≤◌, Bool, ◌≢◌, List, [], ◌∷◌, map, length, get_or, set, ℤ, pos, ◌+ℤ◌, nat_abs, sym, refl, ap, ◌∙◌, ⊎_elim, arith}
 use Rattle.std.proofs.lemmas.List.{get_or-set_same, get_or-set_other, get_or_past}
 use Rattle.std.proofs.lemmas.Bool.{cases_eq, cases_lt}
 use Rattle.foundation.specs.Sums.{sum_to_int}
@@ -9,7 +9,7 @@ use Rattle.sampling.specs.declared.category.Category.TheVariants.{RaiseNotEnable
 use Rattle.sampling.specs.declared.category.Sums.{Sums}
 use Rattle.sampling.specs.declared.reader.Record.{Record}
 use Rattle.sampling.specs.declared.unit.Unit.{Unit}
-use Rattle.sampling.specs.Category.{sum_in, product_in}
+use Rattle.sampling.specs.Category.{sum_in}
 use Rattle.sampling.specs.Records.{Holds, Inside, value_at, raise_at, lower_at}
 use Rattle.sampling.specs.Units.{Added, Bounded, Within, added_by, new_unit, no_unit, owner_at, sum_at}
 use Rattle.sampling.proofs.Products.{products_of, product_bound}

@@ -1,5 +1,5 @@
 -- The categories of a sample.
-use Rattle.std.specs.Prelude.{◌≡◌, ℕ, zero, suc, ◌^◌, ◌≤◌, Bool, true, false, cond, ℤ, pos, negsuc, ◌*ℤ◌, Some, None, Option, ◌==◌, unsigned_abs}
+use Rattle.std.specs.Prelude.{ℕ, zero, suc, ◌^◌, ◌≤◌, Bool, cond, ℤ, pos, negsuc, ◌*ℤ◌, Some, None, Option, ◌==◌, unsigned_abs}
 use Rattle.sampling.specs.declared.category.Category.{Category}
 use Rattle.sampling.specs.declared.category.Category.TheVariants.{RaiseNotEnabled, RaiseEnabled, LowerNotEnabled, LowerEnabled}
 use Rattle.sampling.specs.declared.category.Sums.{Sums}

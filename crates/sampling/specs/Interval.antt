@@ -1,5 +1,5 @@
 -- When an interval is refused, and when it is accepted.
-use Rattle.std.specs.Prelude.{◌≡◌, ℕ, zero, suc, ◌+◌, ◌-◌, ◌*◌, Bool, false, cond, not, List, length, ℤ, pos, negsuc, Some, None, Option, ◌==◌, nat_le, unsigned_abs}
+use Rattle.std.specs.Prelude.{ℕ, zero, suc, ◌*◌, Bool, false, cond, not, List, length, ℤ, pos, negsuc, Some, None, Option, ◌==◌, nat_le, unsigned_abs}
 use Rattle.foundation.specs.declared.interval.SampleInterval.{SampleInterval}
 use Rattle.foundation.specs.Fault.{Refused, refused_in, unless_in}
 use Rattle.foundation.specs.First.{or_else, first_to}

@@ -1,5 +1,5 @@
 -- From sums to weights and factors.
-use Rattle.std.specs.Prelude.{◌≡◌, ℕ, suc, ◌+◌, ◌<◌, Bool, cond, ◌||◌, ℤ, pos, negsuc, Some, None, Option, ◌==◌, int_div, nat_eq}
+use Rattle.std.specs.Prelude.{ℕ, suc, ◌+◌, cond, ◌||◌, ℤ, pos, negsuc, Some, None, Option, ◌==◌, int_div, nat_eq}
 use Rattle.foundation.specs.Division.{share}
 use Rattle.foundation.specs.Fault.{Refused}
 use Rattle.foundation.specs.First.{all_to}

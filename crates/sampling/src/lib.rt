@@ -1,4 +1,6 @@
 // From four-second samples to published contribution factors.
+#![tactic(auto)]
+
 pub mod category;
 pub mod check;
 pub mod factors;

@@ -1,4 +1,4 @@
-use Rattle.std.proofs.Common.{◌≡◌, sym, ap, ◌∙◌, add-one, arith, rules}
+use Rattle.std.proofs.Common.{◌≡◌, sym, ap, ◌∙◌, add-one, arith}
 use Rattle.foundation.specs.Sums.{sum_to}
 use Rattle.foundation.proofs.Sums.{sum_to_none, sum_to_more}
 use Rattle.energy.specs.Energy.{in_region, within}

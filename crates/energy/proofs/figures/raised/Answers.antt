@@ -1,4 +1,4 @@
-use Rattle.std.proofs.Common.{◌≡◌, ◌<◌, length, arith, rules}
+use Rattle.std.proofs.Common.{◌≡◌, length, arith, rules}
 use Rattle.energy.proofs.Tables.{row_put}
 use Rattle.energy.proofs.figures.raised.Goals as goal
 

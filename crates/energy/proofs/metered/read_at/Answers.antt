@@ -1,4 +1,4 @@
-use Rattle.std.proofs.Common.{arith, rules}
+use Rattle.std.proofs.Common.{rules}
 use Rattle.sampling.specs.Records.{number_at}
 use Rattle.energy.proofs.metered.read_at.Goals as goal
 

@@ -1,4 +1,4 @@
-use Rattle.std.proofs.Common.{◌≡◌, ◌≤◌, length, sym, ap, ◌∙◌, add-one, arith, w32, Fits, rules}
+use Rattle.std.proofs.Common.{◌≡◌, length, sym, ap, ◌∙◌, add-one, arith, w32, Fits, rules}
 use Rattle.foundation.specs.Sums.{listed, sum_to}
 use Rattle.foundation.proofs.Sums.{sum_to_none, sum_to_more}
 use Rattle.energy.proofs.profile.sum_of.Goals as goal

@@ -1,5 +1,4 @@
-use Rattle.std.proofs.Common.{arith, rules}
-use Rattle.std.proofs.lemmas.Bool.Decides.{nat_tests}
+use Rattle.std.proofs.Common.{rules}
 use Rattle.sampling.specs.Interval.{fields_fault}
 use Rattle.sampling.proofs.check.check_fields.Goals as goal
 

@@ -1,8 +1,6 @@
-use Rattle.std.proofs.Common.{◌≡◌, ℕ, zero, suc, ◌*◌, ◌<◌, length, Some, None, sym, ap, ◌∙◌, arith, rules, below_more}
+use Rattle.std.proofs.Common.{◌≡◌, suc, ◌*◌, length, sym, ap, ◌∙◌, arith, rules, below_more}
 use Rattle.std.proofs.lemmas.Result.{err_from_is_err_and, IfOk-from_err}
-use Rattle.foundation.specs.Fault.{told, Refused}
-use Rattle.sampling.specs.Records.{Holds, interval_at}
-use Rattle.sampling.specs.Interval.{after, record_fault, interval_fault}
+use Rattle.sampling.specs.Interval.{interval_fault}
 use Rattle.sampling.proofs.Records.{held_at, indicator_held, unit_held, indicator_bad, unit_bad, all_good}
 use Rattle.sampling.proofs.check.check_interval.Goals as goal
 

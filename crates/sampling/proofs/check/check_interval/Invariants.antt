@@ -1,4 +1,4 @@
-use Rattle.std.proofs.Common.{◌≡◌, ℕ, suc, ◌*◌, ◌<◌, None}
+use Rattle.std.proofs.Common.{◌≡◌, ℕ, suc, ◌<◌, None}
 use Rattle.sampling.specs.Interval.{record_fault}
 use Rattle.sampling.proofs.check.check_interval.Given as goal
 

@@ -1,4 +1,4 @@
-use Rattle.std.proofs.Common.{◌≡◌, get_or, pos, sym, arith, w16, SFits, rules, below_more}
+use Rattle.std.proofs.Common.{get_or, pos, sym, arith, w16, SFits, rules, below_more}
 use Rattle.std.proofs.lemmas.Result.{err_from_is_err_and}
 use Rattle.std.proofs.lemmas.Int.{to_z-of_z}
 use Rattle.foundation.proofs.First.{first_to_all, first_to_at}

@@ -1,7 +1,7 @@
-use Rattle.std.proofs.Common.{◌≡◌, ◌/◌, ◌%◌, ◌<◌, eqb, length, ◌+ℤ◌, nat_abs, sym, ap, ◌∙◌, arith, rules}
-use Rattle.sampling.specs.Units.{added_by, sum_at}
+use Rattle.std.proofs.Common.{◌≡◌, ◌/◌, ◌%◌, eqb, length, ◌+ℤ◌, nat_abs, sym, ap, ◌∙◌, arith, rules}
+use Rattle.sampling.specs.Units.{sum_at}
 use Rattle.sampling.proofs.Records.{held_at}
-use Rattle.sampling.proofs.Units.{Sofar, none_done, one_more, within_held, sums_held, added_bound}
+use Rattle.sampling.proofs.Units.{none_done, one_more, within_held, sums_held, added_bound}
 use Rattle.sampling.proofs.unit.add_products.Goals as goal
 
 pub read-sample-requires : goal.read-sample-requires

@@ -1,6 +1,6 @@
-use Rattle.std.proofs.Common.{◌≡◌, ap, ◌∙◌, arith, w64, SFits, rules}
+use Rattle.std.proofs.Common.{ap, ◌∙◌, arith, w64, SFits, rules}
 use Rattle.std.proofs.lemmas.Int.{ints, to_z-of_z}
-use Rattle.sampling.specs.Weights.{loss, subtotal}
+use Rattle.sampling.specs.Weights.{loss}
 use Rattle.sampling.proofs.Subtotals.{loss_most, loss_negative}
 use Rattle.sampling.proofs.weights.loss_of.Goals as goal
 

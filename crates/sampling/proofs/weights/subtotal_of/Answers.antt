@@ -1,4 +1,4 @@
-use Rattle.std.proofs.Common.{◌≡◌, ◌^◌, ◌≤◌, length, ◌+ℤ◌, nat_abs, sym, ap, ◌∙◌, add-one, arith, w64, to_z, rules}
+use Rattle.std.proofs.Common.{◌≡◌, ◌^◌, ◌≤◌, length, ◌+ℤ◌, nat_abs, sym, ap, ◌∙◌, add-one, arith, w64, to_z}
 use Rattle.foundation.specs.Sums.{sum_to_int}
 use Rattle.foundation.proofs.Sums.{sum_to_int_none, sum_to_int_more}
 use Rattle.sampling.specs.Units.{owner_at, sum_at}

@@ -1,4 +1,4 @@
-use Rattle.std.proofs.Common.{◌≡◌, sym, ap, ◌∙◌, add-one, arith, rules, below_more}
+use Rattle.std.proofs.Common.{sym, ap, ◌∙◌, add-one, arith, rules, below_more}
 use Rattle.std.proofs.lemmas.Result.{err_from_is_err_and}
 use Rattle.foundation.specs.Sums.{sum_to}
 use Rattle.foundation.proofs.Sums.{sum_to_none, sum_to_more}

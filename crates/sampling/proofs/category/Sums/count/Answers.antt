@@ -1,7 +1,7 @@
-use Rattle.std.proofs.Common.{◌≡◌, cond, pos, ◌+ℤ◌, sym, ap, ◌∙◌, arith, w16, rules}
+use Rattle.std.proofs.Common.{cond, pos, ◌+ℤ◌, sym, ap, ◌∙◌, arith, w16}
 use lib.IntN.{+ℤ_idr}
 use Rattle.std.proofs.lemmas.Int.{to_z-of_z}
-use Rattle.sampling.specs.Category.{product_in, same, sum_in}
+use Rattle.sampling.specs.Category.{same, sum_in}
 use Rattle.sampling.proofs.Products.{product_some, product_none}
 use Rattle.foundation.proofs.Signed.{product_small, product_is}
 use Rattle.sampling.proofs.category.Sums.count.Goals as goal

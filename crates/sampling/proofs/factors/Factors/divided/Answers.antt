@@ -1,5 +1,5 @@
-use Rattle.std.proofs.Common.{◌≡◌, ℕ, ◌^◌, ◌<◌, length, sym, ap, ◌∙◌, subst, arith, rules}
-use Rattle.foundation.specs.Division.{Divided, share}
+use Rattle.std.proofs.Common.{◌≡◌, ◌^◌, ◌<◌, length, sym, subst, rules}
+use Rattle.foundation.specs.Division.{Divided}
 use Rattle.foundation.specs.Sums.{listed, sum_to}
 use Rattle.sampling.proofs.Published.{whole_million, weights_fit}
 use Rattle.sampling.proofs.factors.Factors.divided.Goals as goal

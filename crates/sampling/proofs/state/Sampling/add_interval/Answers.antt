@@ -1,8 +1,8 @@
-use Rattle.std.proofs.Common.{◌≡◌, ℕ, suc, ◌+◌, ◌≤◌, length, None, vec_items, vec_len, sym, refl, ap, ◌∙◌, subst, arith, rules}
+use Rattle.std.proofs.Common.{◌≡◌, ℕ, suc, ◌+◌, ◌≤◌, length, vec_items, sym, refl, ap, ◌∙◌, subst, arith}
 use Rattle.std.proofs.lemmas.List.{with_items_is}
 use Rattle.std.proofs.lemmas.Result.{err_from_is_err_and, IfOk-from_err}
 use Rattle.sampling.specs.Interval.{after, interval_fault}
-use Rattle.sampling.specs.Records.{Inside, interval_at}
+use Rattle.sampling.specs.Records.{Inside}
 use Rattle.sampling.specs.Units.{Added, Bounded}
 use Rattle.sampling.proofs.Accepted.{inside, not_below}
 use Rattle.sampling.proofs.History.{gone_added, gone_refused}

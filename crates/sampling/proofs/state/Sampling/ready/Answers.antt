@@ -1,5 +1,4 @@
-use Rattle.std.proofs.Common.{◌≡◌, ℕ, ◌<◌, ◌⊎◌, length, vec_items, vec_len, sym, ap, ◌∙◌, subst, inl, inr, arith, rules, true-eqb, false-eqb}
-use Rattle.foundation.specs.Sums.{listed}
+use Rattle.std.proofs.Common.{◌≡◌, ◌⊎◌, length, vec_items, vec_len, sym, ap, ◌∙◌, inl, inr, arith, rules, true-eqb, false-eqb}
 use Rattle.sampling.specs.Units.{sampled}
 use Rattle.sampling.specs.Weights.{weight}
 use Rattle.sampling.proofs.History.{gone_same, ready_same}

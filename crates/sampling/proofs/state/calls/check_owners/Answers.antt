@@ -1,4 +1,4 @@
-use Rattle.std.proofs.Common.{◌≡◌, leb, Some, None, sym, arith, rules, below_more}
+use Rattle.std.proofs.Common.{◌≡◌, leb, Some, sym, arith, below_more}
 use Rattle.std.proofs.lemmas.Bool.Decides.{nat_tests}
 use Rattle.foundation.proofs.First.{first_to_all, first_to_at}
 use Rattle.foundation.specs.Sums.{listed}

@@ -1,5 +1,4 @@
-use Rattle.std.proofs.Common.{arith, rules}
-use Rattle.std.proofs.lemmas.Bool.Decides.{nat_tests}
+use Rattle.std.proofs.Common.{rules}
 use Rattle.sampling.specs.Registration.{registration_fault}
 use Rattle.sampling.proofs.state.calls.check_registration.Goals as goal
 
