@@ -87,7 +87,7 @@ impl Sampling {
         ensures told { (h : List Event) → Gone h self.old → Gone (registration result owners.now ∷ h) self.new }
     {
         check_registration(self.units.len(), owners)?;
-        let heap = self.units.allocator();
+        let heap = *self.units.allocator();
         self.units = new_units(heap, owners)?;
         Ok(())
     }
@@ -97,7 +97,7 @@ impl Sampling {
         ensures answer { refusal result ≡ interval_fault (vec_len self.old.units) (after self.old.last) bytes.now }
         ensures refused { is_err result ≡ true → self.new ≡ self.old }
         ensures added { OnOk result (Added bytes.now self.old.units.items self.new.units.items) }
-        ensures used { made result (λ _. self.new.used ≡ suc self.old.used) }
+        ensures used { OnOk result (self.new.used ≡ suc self.old.used) }
         ensures last { OnOk result (after self.new.last ≡ suc (interval_at bytes.now)) }
         ensures told { (h : List Event) → Gone h self.old → Gone (offered bytes.now ∷ h) self.new }
     {

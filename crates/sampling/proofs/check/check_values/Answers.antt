@@ -7,13 +7,13 @@ use Rattle.sampling.proofs.check.check_values.Goals as goal
 pub loop-value-preserved : goal.loop-value-preserved
 loop-value-preserved c =
     let fits : SFits w16 (get_or c.args.values.now c.loop-value.value-index (pos 0)) = search rules in
-    below_more _ _ c.loop-value.invariant (sym (simp to_z-of_z at c.in-ok-check-value.ensures))
+    below_more _ _ c.loop-value.invariant (sym (simp to_z-of_z at c.in_ok-check_value.ensures))
 
-pub returns-in-err-check-value : goal.returns-in-err-check-value
-returns-in-err-check-value c =
+pub returns-in_err-check_value : goal.returns-in_err-check_value
+returns-in_err-check_value c =
     let fits : SFits w16 (get_or c.args.values.now c.loop-value.value-index (pos 0)) = search rules in
-    let p = err_from_is_err_and c.from-residual.result c.from-residual.ensures.1 in
-    rw (p.1, p.2) (sym (first_to_at _ _ c.loop-value.value-index _ (omega arith) c.loop-value.invariant (sym (simp to_z-of_z at c.in-err-check-value.ensures))))
+    let p = err_from_is_err_and c.from_residual.result c.from_residual.ensures.1 in
+    rw (p.1, p.2) (sym (first_to_at _ _ c.loop-value.value-index _ (omega arith) c.loop-value.invariant (sym (simp to_z-of_z at c.in_err-check_value.ensures))))
 
 pub returns : goal.returns
 returns c = sym (first_to_all _ _ (λ k h. c.loop-value.invariant k (omega arith)))

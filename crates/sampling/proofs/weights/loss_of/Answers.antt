@@ -6,8 +6,8 @@ use Rattle.sampling.proofs.weights.loss_of.Goals as goal
 
 pub returns-then-subtotal-lt0 : goal.returns-then-subtotal-lt0
 returns-then-subtotal-lt0 c =
-    let fits : SFits w64 c.subtotal-of-subtotal.result = search rules in
-    let value = simp to_z-of_z at c.unsigned-abs.ensures.value ∙ loss_negative c.subtotal-of-subtotal.result (search (rules, ints)) ∙ ap loss c.subtotal-of-subtotal.ensures in
+    let fits : SFits w64 c.subtotal_of-subtotal.result = search rules in
+    let value = simp to_z-of_z at c.unsigned_abs.ensures.value ∙ loss_negative c.subtotal_of-subtotal.result (search (rules, ints)) ∙ ap loss c.subtotal_of-subtotal.ensures in
     record {
       value = value;
       bound = omega (arith, value, loss_most c.args.units.now c.args.used c.args.owner c.args.category c.requires.few c.requires.bounded);

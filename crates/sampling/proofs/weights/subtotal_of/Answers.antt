@@ -9,24 +9,24 @@ use Rattle.sampling.proofs.weights.subtotal_of.Goals as goal
 pub loop-unit-init : goal.loop-unit-init
 loop-unit-init c = sym (sum_to_int_none (parts_of c.args.units.now c.args.used c.args.owner c.args.category))
 
-pub part-of-sum-requires : goal.part-of-sum-requires
-part-of-sum-requires c = omega (arith, c.requires.bounded c.loop-unit.unit-index c.args.category)
+pub part_of-sum-requires : goal.part_of-sum-requires
+part_of-sum-requires c = omega (arith, c.requires.bounded c.loop-unit.unit-index c.args.category)
 
-small : (c : goal.After-part-of-sum) → (nat_abs (to_z w64 c.loop-unit.sum-bits) ≤ 2 ^ 60) × (nat_abs c.part-of-sum.result ≤ 2 ^ 60)
+small : (c : goal.After-part_of-sum) → (nat_abs (to_z w64 c.loop-unit.sum-bits) ≤ 2 ^ 60) × (nat_abs c.part_of-sum.result ≤ 2 ^ 60)
 small c = (
   omega (arith, ap nat_abs c.loop-unit.invariant, parts_bound c.args.units.now c.args.used c.args.owner c.args.category c.loop-unit.unit-index c.requires.bounded, c.requires.few),
-  omega (arith, ap nat_abs c.part-of-sum.ensures, part_bound (owner_at c.args.units.now c.loop-unit.unit-index) c.args.owner (sum_at c.args.units.now c.loop-unit.unit-index c.args.category) c.args.used 18869760000000 (c.requires.bounded c.loop-unit.unit-index c.args.category)),
+  omega (arith, ap nat_abs c.part_of-sum.ensures, part_bound (owner_at c.args.units.now c.loop-unit.unit-index) c.args.owner (sum_at c.args.units.now c.loop-unit.unit-index c.args.category) c.args.used 18869760000000 (c.requires.bounded c.loop-unit.unit-index c.args.category)),
 )
 
-pub overflow-add-sum : goal.overflow-add-sum
-overflow-add-sum c = running_fits (to_z w64 c.loop-unit.sum-bits) c.part-of-sum.result (small c).0 (small c).1
+pub overflow_add-sum : goal.overflow_add-sum
+overflow_add-sum c = running_fits (to_z w64 c.loop-unit.sum-bits) c.part_of-sum.result (small c).0 (small c).1
 
 pub loop-unit-preserved : goal.loop-unit-preserved
 loop-unit-preserved c =
     let parts = parts_of c.args.units.now c.args.used c.args.owner c.args.category in
-    running_is (to_z w64 c.loop-unit.sum-bits) c.part-of-sum.result (small c).0 (small c).1
-    ∙ ap (λ z. z +ℤ c.part-of-sum.result) c.loop-unit.invariant
-    ∙ ap (λ z. sum_to_int c.loop-unit.unit-index parts +ℤ z) c.part-of-sum.ensures
+    running_is (to_z w64 c.loop-unit.sum-bits) c.part_of-sum.result (small c).0 (small c).1
+    ∙ ap (λ z. z +ℤ c.part_of-sum.result) c.loop-unit.invariant
+    ∙ ap (λ z. sum_to_int c.loop-unit.unit-index parts +ℤ z) c.part_of-sum.ensures
     ∙ sym (sum_to_int_more c.loop-unit.unit-index parts)
     ∙ ap (λ n. sum_to_int n parts) (sym (add-one c.loop-unit.unit-index))
 

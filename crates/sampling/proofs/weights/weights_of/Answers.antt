@@ -9,7 +9,7 @@ pub loop-owner-preserved : goal.loop-owner-preserved
 loop-owner-preserved c =
     let here : c.loop-owner.owner < length c.loop-owner.weights = omega (arith, c.loop-owner.invariant.0) in (
       simp length-set c.loop-owner.invariant.0,
-      filled (weight (sampled c.args.units.now c.args.used)) c.loop-owner.weights c.loop-owner.owner c.weight-of.result here c.weight-of.ensures.value c.loop-owner.invariant.1,
+      filled (weight (sampled c.args.units.now c.args.used)) c.loop-owner.weights c.loop-owner.owner c.weight_of.result here c.weight_of.ensures.value c.loop-owner.invariant.1,
     )
 
 pub returns : goal.returns

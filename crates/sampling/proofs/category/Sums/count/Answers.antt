@@ -17,7 +17,7 @@ returns-in-Some c d =
     let e = simp (to_z-of_z w16 c.args.indicator c.ranges.indicator) at c.in-Some.ensures in
     c.add.ensures d ∙ ap (λ z. sum_in c.args.self.now d +ℤ z) (ap (λ z. cond (same d c.in-Some.category) z (pos 0)) (product_is c.args.deviation c.args.indicator c.ranges.deviation c.ranges.indicator) ∙ sym (product_some d _ c.args.indicator c.args.raise c.args.lower c.args.deviation (sym e)))
 
-pub returns-in-default : goal.returns-in-default
-returns-in-default c d =
-    let e = simp (to_z-of_z w16 c.args.indicator c.ranges.indicator) at c.in-default.ensures in
+pub returns-in_default : goal.returns-in_default
+returns-in_default c d =
+    let e = simp (to_z-of_z w16 c.args.indicator c.ranges.indicator) at c.in_default.ensures in
     sym (ap (λ z. sum_in c.args.self.now d +ℤ z) (product_none d c.args.indicator c.args.raise c.args.lower c.args.deviation (sym e)) ∙ +ℤ_idr (sum_in c.args.self.now d))

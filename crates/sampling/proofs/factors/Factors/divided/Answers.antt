@@ -12,7 +12,7 @@ divide-requires c =
       fits = subst (λ n. sum_to n (listed c.args.weights.now) < 2 ^ 64) (sym long) (weights_fit (listed c.args.weights.now) c.requires);
     }
 
-pub invariant-of-result : goal.invariant-of-result
-invariant-of-result c =
+pub invariant_of-result : goal.invariant_of-result
+invariant_of-result c =
     let long : length c.args.weights.now ≡ 65 = search rules in
-    (whole_million 65 (listed c.args.weights.now) (listed c.divide.new.shares) (subst (λ n. Divided 1000000 n (listed c.args.weights.now) (listed c.divide.new.shares)) long c.divide.ensures), tt)
+    record { whole = whole_million 65 (listed c.args.weights.now) (listed c.divide.new.shares) (subst (λ n. Divided 1000000 n (listed c.args.weights.now) (listed c.divide.new.shares)) long c.divide.ensures) }

@@ -3,5 +3,5 @@ use Rattle.foundation.specs.Sums.{listed}
 use Rattle.sampling.proofs.Published.{factor_most}
 use Rattle.sampling.proofs.factors.Factors.residual.Goals as goal
 
-pub overflow-cast-result : goal.overflow-cast-result
-overflow-cast-result c = record { fits = omega (arith, factor_most (listed c.args.self.now.factors) 64 (lit< tt) c.args.self.now.whole) }
+pub overflow_cast-result : goal.overflow_cast-result
+overflow_cast-result c = record { fits = omega (arith, factor_most (listed c.args.self.now.factors) 64 (lit< tt) c.args.self.now.whole) }

@@ -8,7 +8,7 @@ use Rattle.sampling.proofs.state.calls.check_owners.Goals as goal
 pub returns-then-owner-gt-RESIDUAL : goal.returns-then-owner-gt-RESIDUAL
 returns-then-owner-gt-RESIDUAL c =
     let bad : unless (leb (listed c.args.owners.now c.loop-unit.unit) 64) 2 c.loop-unit.unit ≡ Some (in_samples 2 c.loop-unit.unit) = grind (arith, nat_tests) in
-    rw c.samples-fault.ensures (sym (first_to_at _ _ c.loop-unit.unit _ c.loop-unit-test.true c.loop-unit.invariant bad))
+    rw c.samples_fault.ensures (sym (first_to_at _ _ c.loop-unit.unit _ c.loop-unit-test.true c.loop-unit.invariant bad))
 
 pub loop-unit-preserved : goal.loop-unit-preserved
 loop-unit-preserved c = below_more _ _ c.loop-unit.invariant (grind (arith, nat_tests))

@@ -7,9 +7,9 @@ pub returns-then-units-gt0 : goal.returns-then-units-gt0
 unfolding registration_fault
 returns-then-units-gt0 c = search rules
 
-pub returns-then-is-empty : goal.returns-then-is-empty
+pub returns-then-is_empty : goal.returns-then-is_empty
 unfolding registration_fault
-returns-then-is-empty c = search rules
+returns-then-is_empty c = search rules
 
 pub returns : goal.returns
 unfolding registration_fault

@@ -6,7 +6,7 @@ use Rattle.sampling.proofs.state.calls.new_units.Goals as goal
 
 pub loop-owner-preserved : goal.loop-owner-preserved
 loop-owner-preserved c =
-    let ok : is_ok c.push.result ≡ true = c.if-is-err.ensures.negation in
+    let ok : is_ok c.push.result ≡ true = c.if-is_err.ensures.negation in
     chosen _ _ _ _ c.push.ensures.items ok
     ∙ ap (λ us. us ++ (record { owner = get_or c.args.owners.now c.loop-owner.owner-index 0; sums = c.zero.result }) ∷ []) c.loop-owner.invariant
     ∙ ap (λ s. map new_unit (take c.loop-owner.owner-index c.args.owners.now) ++ (record { owner = get_or c.args.owners.now c.loop-owner.owner-index 0; sums = s }) ∷ []) c.zero.ensures
