@@ -1,10 +1,10 @@
 -- The records of a journal's bytes, 16 bytes each: party (2), serial (2), zero (4) and line (8, in two's complement).
-use Rattle.std.specs.Prelude.{◌≡◌, ℕ, zero, suc, ◌+◌, ◌*◌, ◌/◌, ◌%◌, min, List, [], ◌∷◌, ◌++◌, length, get_or, take, drop, ℤ, pos}
+use Rattle.std.specs.Prelude.{◌≡◌, ℕ, zero, suc, ◌+◌, ◌*◌, ◌/◌, ◌%◌, min, List, [], ◌∷◌, ◌++◌, length, take, drop, ℤ, pos}
 use Rattle.std.specs.Int.{w64}
 use Rattle.std.proofs.Common.{to_z, of_z}
 use Rattle.foundation.specs.Bytes.{number_at, long_at}
 use Rattle.ledger.specs.Amounts.{posted}
-use Rattle.ledger.specs.Posts.{Event, Holds, Post, lines_in}
+use Rattle.ledger.specs.Posts.{Event, Post, lines_in}
 
 -- the fields of record k
 abbrev pub party_at : List ℕ → ℕ → ℕ

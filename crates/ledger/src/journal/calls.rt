@@ -1,5 +1,5 @@
 // What a journal is asked and told.
-ghost use Rattle.std.specs.Prelude.{◌≡◌, ℕ, suc, ◌+◌, ◌-◌, ◌*◌, ◌≤◌, true, ◌&&◌, List, [], ◌∷◌, length, pos, is_err, if◌then◌else◌, ◌==◌, nat_eq};
+ghost use Rattle.std.specs.Prelude.{◌≡◌, ℕ, suc, ◌+◌, ◌-◌, ◌*◌, ◌≤◌, true, ◌&&◌, List, [], ◌∷◌, length, pos, is_err, if◌then◌else◌, ◌==◌};
 ghost use Rattle.foundation.specs.Fault.{refusal};
 ghost use Rattle.ledger.specs.Amounts.{Falls, after_post, post_fault, seen};
 ghost use Rattle.ledger.specs.Journal.{JournalHolds, owed_in, records_in};
@@ -20,7 +20,7 @@ fn records_in(bytes: &[u8]) -> usize
 
 // What an entry adds to an amount.
 fn line_of(entry: Entry, party: u16, serial: u16) -> i64
-    ensures { result ≡ (if nat_eq party entry.party && serial == entry.serial then entry.line else pos 0) }
+    ensures { result ≡ (if party == entry.party && serial == entry.serial then entry.line else pos 0) }
 {
     if party == entry.party && serial == entry.serial {
         return entry.line;

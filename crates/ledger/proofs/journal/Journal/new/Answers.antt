@@ -2,5 +2,5 @@ use Rattle.std.proofs.Common.{refl, arith}
 use Rattle.ledger.proofs.Postings.{magnitudes_zero}
 use Rattle.ledger.proofs.journal.Journal.new.Goals as goal
 
-pub invariant-of-result : goal.invariant-of-result
-invariant-of-result c = (omega arith, ((λ k l. omega (arith, l)), ((λ p s. refl), (omega (arith, magnitudes_zero _ (λ p s. refl)), tt))))
+pub invariant_of-result : goal.invariant_of-result
+invariant_of-result c = record { inside = omega arith; lines = λ k l. omega (arith, l); debts = λ p s. refl; sizes = omega (arith, magnitudes_zero _ (λ p s. refl)) }

@@ -1,4 +1,4 @@
-use Rattle.std.proofs.Common.{◌≡◌, ◌≤◌}
+use Rattle.std.proofs.Common.{◌≡◌}
 use Rattle.ledger.specs.Journal.{owed_in}
 use Rattle.ledger.proofs.journal.calls.JournalLedger.amount.Given as goal
 
