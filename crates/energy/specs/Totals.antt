@@ -46,6 +46,9 @@ cond_le false n = omega arith
 pub within_le : (set : ℕ) (f : ℕ → ℕ → ℕ) → grand (within set f) ≤ grand f
 within_le set f = omega (arith, within_all set f, grand_is f, sum_to_le 5 (λ r. cond (member set r) (in_region f r) 0) (in_region f) (λ r l. cond_le (member set r) (in_region f r)))
 
+pub within_bounded : (set : ℕ) (f : ℕ → ℕ → ℕ) → grand f ≤ 40000000 → grand (within set f) ≤ 40000000
+within_bounded set f h = omega (arith, within_le set f, h)
+
 -- a handover at one region: what the leaver loses, the successor gains
 abbrev handed : ℕ → ℕ → (ℕ → ℕ) → ℕ → ℕ
 handed l s f p = cond (p == l) 0 (cond (p == s) (f s + f l) (f p))
@@ -82,6 +85,9 @@ moved_region l s f r = region_by (moves l s) l s f r (moving l s)
 
 pub moved_all : (l s : ℕ) (f : ℕ → ℕ → ℕ) → grand (moved l s f) ≡ grand f
 moved_all l s f = grand_is (moved l s f) ∙ sum_to_eq 5 (in_region (moved l s f)) (in_region f) (λ r h. moved_region l s f r) ∙ sym (grand_is f)
+
+pub moved_bounded : (l s : ℕ) (f : ℕ → ℕ → ℕ) → grand f ≤ 40000000 → grand (moved l s f) ≤ 40000000
+moved_bounded l s f h = omega (arith, moved_all l s f, h)
 
 pub moved_other : (l s : ℕ) (f : ℕ → ℕ → ℕ) (p r : ℕ) → p ≢ l → p ≢ s → moved l s f p r ≡ f p r
 moved_other l s f p r d e = other (moves l s) (p == l) (p == s) (f s r + f l r) (f p r) (ne_eqb p l d) (ne_eqb p s e)

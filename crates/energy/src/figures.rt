@@ -3,7 +3,6 @@ ghost use Rattle.std.specs.Prelude.{◌≡◌, ℕ, ◌+◌, ◌^◌, ◌<◌, �
 ghost use Rattle.energy.specs.Energy.{grand};
 ghost use Rattle.foundation.specs.Sums.{listed};
 ghost use Rattle.energy.specs.Table.{figure_of, bumped};
-ghost use Rattle.std.proofs.Common.{rules, arith};
 
 use crate::source::{EnergySource, PARTIES, REGIONS};
 
@@ -68,7 +67,7 @@ impl Figures {
 impl EnergySource for Figures {
     ghost kwh = { λ f. figure_of f.rows };
 
-    ghost bounded = { first_of (Prim.search rules, Prim.grind (arith, Self.row.coded.inj)) };
+    ghost bounded = { λ f. f.limited };
 
     fn energy(&self, party: u16, region: u8) -> u32 {
         if party >= PARTIES || region >= REGIONS {

@@ -1,8 +1,7 @@
 // Any source below, with a leaver's figures moved onto a successor's.
 ghost use Rattle.std.specs.Prelude.{◌≡◌, ℕ, ◌≢◌};
 ghost use Rattle.energy.specs.Energy.{in_region, moved, moves};
-ghost use Rattle.std.proofs.Common.{arith};
-ghost use Rattle.energy.specs.Totals.{moved_all};
+ghost use Rattle.energy.specs.Totals.{moved_bounded};
 
 use crate::source::{EnergySource, PARTIES};
 
@@ -37,7 +36,7 @@ impl<E: EnergySource> Handover<E> {
 impl<E: EnergySource> EnergySource for Handover<E> {
     ghost kwh = { λ s. moved s.leaver s.successor (E.EnergySource.kwh s.below) };
 
-    ghost bounded = { λ s. omega (arith, moved_all s.leaver s.successor (E.EnergySource.kwh s.below), E.EnergySource.bounded s.below) };
+    ghost bounded = { λ s. moved_bounded s.leaver s.successor (E.EnergySource.kwh s.below) (E.EnergySource.bounded s.below) };
 
     fn energy(&self, party: u16, region: u8) -> u32 {
         if !self.moves() {

@@ -2,8 +2,7 @@
 ghost use Rattle.std.specs.Prelude.{◌≡◌, ℕ, ◌&&◌, if◌then◌else◌, nat_lt};
 ghost use Rattle.foundation.specs.Sums.{sum_to};
 ghost use Rattle.energy.specs.Energy.{in_region, grand, member, within, moved};
-ghost use Rattle.std.proofs.Common.{arith};
-ghost use Rattle.energy.specs.Totals.{within_le};
+ghost use Rattle.energy.specs.Totals.{within_bounded};
 
 use crate::source::{EnergySource, REGIONS};
 
@@ -34,7 +33,7 @@ impl<E: EnergySource> Island<E> {
 impl<E: EnergySource> EnergySource for Island<E> {
     ghost kwh = { λ s. within s.regions (E.EnergySource.kwh s.below) };
 
-    ghost bounded = { λ s. omega (arith, within_le s.regions (E.EnergySource.kwh s.below), E.EnergySource.bounded s.below) };
+    ghost bounded = { λ s. within_bounded s.regions (E.EnergySource.kwh s.below) (E.EnergySource.bounded s.below) };
 
     fn energy(&self, party: u16, region: u8) -> u32 {
         if !in_set(self.regions, region) {

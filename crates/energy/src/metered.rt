@@ -4,7 +4,6 @@ ghost use Rattle.foundation.specs.Fault.{refusal};
 ghost use Rattle.foundation.specs.declared.fault.Layer.TheVariants.{Energies};
 ghost use Rattle.energy.specs.Metered.{party_at, region_at, zero_at, kwh_at, fields_fault, metered_fault, metered_kwh, summed};
 ghost use Rattle.energy.specs.Table.{figure_of};
-ghost use Rattle.std.proofs.Common.{rules};
 
 use crate::figures::Figures;
 use crate::source::{EnergySource, PARTIES, REGIONS};
@@ -116,7 +115,7 @@ impl Metered {
 impl EnergySource for Metered {
     ghost kwh = { λ m. figure_of m.figures.rows };
 
-    ghost bounded = { Prim.search rules };
+    ghost bounded = { λ m. m.figures.limited };
 
     fn energy(&self, party: u16, region: u8) -> u32 {
         self.figures.energy(party, region)

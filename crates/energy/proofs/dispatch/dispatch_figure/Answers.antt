@@ -8,20 +8,20 @@ use Rattle.energy.proofs.dispatch.dispatch_figure.Goals as goal
 pub portion-requires : goal.portion-requires
 portion-requires g c =
     let f = g.E.EnergySource.kwh c.args.source.now in
-    omega (arith, c.total-in-inside.ensures, c.total-in-all.ensures, within_every f, within_le c.args.regions f)
+    omega (arith, c.total_in-inside.ensures, c.total_in-all.ensures, within_every f, within_le c.args.regions f)
 
-pub overflow-cast-result : goal.overflow-cast-result
-overflow-cast-result g c =
+pub overflow_cast-result : goal.overflow_cast-result
+overflow_cast-result g c =
     let f = g.E.EnergySource.kwh c.args.source.now in
-    let part : c.total-in-inside.result ≤ c.total-in-all.result = omega (arith, c.total-in-inside.ensures, c.total-in-all.ensures, within_every f, within_le c.args.regions f) in
-    record { fits = omega (arith, c.portion.ensures, c.from.ensures, quotient_le c.from.result c.total-in-inside.result c.total-in-all.result part) }
+    let part : c.total_in-inside.result ≤ c.total_in-all.result = omega (arith, c.total_in-inside.ensures, c.total_in-all.ensures, within_every f, within_le c.args.regions f) in
+    record { fits = omega (arith, c.portion.ensures, c.from.ensures, quotient_le c.from.result c.total_in-inside.result c.total_in-all.result part) }
 
 pub returns : goal.returns
 returns g c =
     let f = g.E.EnergySource.kwh c.args.source.now in
-    let inside = c.total-in-inside.ensures ∙ within_all c.args.regions f in
-    let all = c.total-in-all.ensures ∙ within_every f ∙ grand_is f in
+    let inside = c.total_in-inside.ensures ∙ within_all c.args.regions f in
+    let all = c.total_in-all.ensures ∙ within_every f ∙ grand_is f in
     record {
       answer = search rules;
-      value = c.portion.ensures ∙ ap (λ n. n * c.total-in-inside.result / c.total-in-all.result) (c.from.ensures ∙ c.residual.ensures) ∙ ap (λ n. residual_of c.args.factors.now * c.total-in-inside.result / n) all ∙ ap (λ n. residual_of c.args.factors.now * n / sum_to 5 (in_region f)) inside;
+      value = c.portion.ensures ∙ ap (λ n. n * c.total_in-inside.result / c.total_in-all.result) (c.from.ensures ∙ c.residual.ensures) ∙ ap (λ n. residual_of c.args.factors.now * c.total_in-inside.result / n) all ∙ ap (λ n. residual_of c.args.factors.now * n / sum_to 5 (in_region f)) inside;
     }

@@ -14,16 +14,16 @@ loop-k-init c = (λ p r. c.none-figures.ensures p r ∙ sym (summed_none _ p r),
 pub add-requires : goal.add-requires
 add-requires c =
     let fine = good c.args.bytes.now c.loop-k.k c.requires c.loop-k-test.true in
-    let read = c.read-at-reading.ensures in
+    let read = c.read_at-reading.ensures in
     record { party = omega (arith, fine.party, read.party); region = omega (arith, fine.region, read.region); room = omega (arith, fine.room, read.kwh, c.loop-k.invariant.1) }
 
 pub loop-k-preserved : goal.loop-k-preserved
 loop-k-preserved c =
     let b = c.args.bytes.now in
     let old = figure_of c.loop-k.figures.rows in
-    let read = c.read-at-reading.ensures in
+    let read = c.read_at-reading.ensures in
     let fine = good b c.loop-k.k c.requires c.loop-k-test.true in
-    let new = c.read-at-reading.result in
+    let new = c.read_at-reading.result in
     let all = bumped_all new.party new.region new.kwh old (omega (arith, fine.party, read.party)) (omega (arith, fine.region, read.region)) in
     let more = ap (λ n. sum_to n (kwh_at b)) (add-one c.loop-k.k) ∙ sum_to_more c.loop-k.k (kwh_at b) in (
       λ p r. c.add.ensures p r ∙ summed_bumped b c.loop-k.k new.party new.region new.kwh old p r read.party read.region read.kwh (c.loop-k.invariant.0 p r),

@@ -10,11 +10,11 @@ raised-requires c = record {
   room = omega (arith, c.requires.room, figure_le (figure_of c.args.self.now.rows) c.args.party c.args.region c.requires.party c.requires.region);
 }
 
-pub invariant-of-self : goal.invariant-of-self
-invariant-of-self c =
+pub invariant_of-self : goal.invariant_of-self
+invariant_of-self c =
     let rows : length c.args.self.now.rows ≡ 64 = search rules in
     let new : _ = figure_put c.args.self.now.rows c.raised.result c.args.party c.args.region c.args.kwh (omega (arith, c.requires.party)) c.raised.ensures in
-    (omega (arith, c.requires.room, grand_eq _ (bumped c.args.party c.args.region c.args.kwh (figure_of c.args.self.now.rows)) (λ p r l m. new p r), bumped_all c.args.party c.args.region c.args.kwh (figure_of c.args.self.now.rows) c.requires.party c.requires.region), tt)
+    record { limited = omega (arith, c.requires.room, grand_eq _ (bumped c.args.party c.args.region c.args.kwh (figure_of c.args.self.now.rows)) (λ p r l m. new p r), bumped_all c.args.party c.args.region c.args.kwh (figure_of c.args.self.now.rows) c.requires.party c.requires.region) }
 
 pub returns : goal.returns
 returns c =

@@ -9,10 +9,10 @@ pub loop-party-preserved : goal.loop-party-preserved
 loop-party-preserved g c =
     let here : c.loop-party.party < length c.loop-party.rows = omega (arith, c.loop-party.invariant.0) in (
       simp length-set c.loop-party.invariant.0,
-      rows_more (g.E.EnergySource.kwh c.args.source.now) c.loop-party.rows c.row-of.result c.loop-party.party here c.row-of.ensures c.loop-party.invariant.1,
+      rows_more (g.E.EnergySource.kwh c.args.source.now) c.loop-party.rows c.row_of.result c.loop-party.party here c.row_of.ensures c.loop-party.invariant.1,
     )
 
-pub invariant-of-result : goal.invariant-of-result
-invariant-of-result g c =
+pub invariant_of-result : goal.invariant_of-result
+invariant_of-result g c =
     let f = g.E.EnergySource.kwh c.args.source.now in
-    (omega (arith, grand_eq (figure_of c.loop-party.rows) f (λ p r l m. c.loop-party.invariant.1 p r (omega arith) m), g.met.E.EnergySource.bounded c.args.source.now), tt)
+    record { limited = omega (arith, grand_eq (figure_of c.loop-party.rows) f (λ p r l m. c.loop-party.invariant.1 p r (omega arith) m), g.met.E.EnergySource.bounded c.args.source.now) }

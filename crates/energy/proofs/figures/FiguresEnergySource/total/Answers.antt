@@ -8,8 +8,8 @@ use Rattle.energy.proofs.figures.FiguresEnergySource.total.Goals as goal
 pub loop-row-init : goal.loop-row-init
 loop-row-init c = sym (sum_to_none _)
 
-pub overflow-add-sum : goal.overflow-add-sum
-overflow-add-sum c =
+pub overflow_add-sum : goal.overflow_add-sum
+overflow_add-sum c =
     let f = figure_of c.args.self.now.rows in
     let column : ℕ → ℕ = λ p. f p c.args.region in
     let rows : length c.args.self.now.rows ≡ 64 = search rules in
