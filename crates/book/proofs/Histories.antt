@@ -1,8 +1,7 @@
 -- What a history says after one event more, and what a book that is kept with it keeps.
-use Rattle.std.proofs.Common.{◌≡◌, ℕ, zero, suc, ◌+◌, ◌<◌, ◌≤◌, Bool, true, false, cond, ◌&&◌, eqb, ltb, ◌≢◌, ◌⊎◌, List, [], ◌∷◌, ℤ, pos, ◌+ℤ◌, neg_ℤ, sym, refl, ap, ◌∙◌, subst, ⊎_elim, arith}
+use Rattle.std.proofs.Common.{◌≡◌, ℕ, suc, ◌+◌, ◌<◌, ◌≤◌, Bool, true, false, cond, eqb, ltb, ◌≢◌, List, [], ◌∷◌, ℤ, pos, ◌+ℤ◌, neg_ℤ, sym, refl, ap, ◌∙◌, subst, ⊎_elim, arith}
 use Rattle.std.proofs.lemmas.Int.{ints}
-use Rattle.std.proofs.lemmas.Bool.{and_from, and_left, cases_Bool, cases_eq, cases_lt, cond-true, cond-false, eq-eqb, eqb-true, eqb-false, lt-ltb, ne_eqb, true≢false}
-use Rattle.std.proofs.lemmas.Bool.Decides.{nat_tests}
+use Rattle.std.proofs.lemmas.Bool.{and_from, and_left, cases_Bool, cases_eq, cases_lt, cond-true, cond-false, eq-eqb, lt-ltb, ne_eqb}
 use Rattle.sampling.specs.declared.factors.Factors.{Factors}
 use Rattle.recovery.specs.Recovery.{lowered}
 use Rattle.recovery.specs.Shares.{Basis, basis_of, cmpf, crmpf, share_paid}
@@ -11,7 +10,7 @@ use Rattle.book.specs.declared.state.Pending.{Pending}
 use Rattle.book.specs.declared.state.State.{State}
 use Rattle.book.specs.declared.state.State.TheVariants as state
 use Rattle.book.specs.Calls.{changed}
-use Rattle.book.specs.History.{Claimed, History, claimed, claims, declared, not_of, of_number, paid, recovered, recovered_claims, recoveries, refused, regions_of, returned, returned_claims, serials, standing, still_open, ticks, withdrawn}
+use Rattle.book.specs.History.{Claimed, History, claimed, declared, not_of, of_number, paid, recovered, recoveries, refused, regions_of, returned, serials, standing, still_open, ticks, withdrawn}
 use Rattle.book.specs.Kept.{Kept, held_in, regions_in, serial_in}
 use Rattle.book.specs.Settled.{Each}
 

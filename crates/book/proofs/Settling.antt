@@ -1,14 +1,13 @@
 -- What a book that is kept with a history has settled.
-use Rattle.std.proofs.Common.{◌≡◌, ℕ, zero, suc, ◌+◌, ◌<◌, ◌≤◌, Bool, true, false, cond, eqb, ◌⊎◌, List, [], ◌∷◌, ℤ, pos, ◌+ℤ◌, neg_ℤ, sym, refl, ap, ◌∙◌, subst, ⊎_elim, arith}
+use Rattle.std.proofs.Common.{◌≡◌, ℕ, zero, suc, ◌+◌, ◌<◌, ◌≤◌, Bool, true, false, cond, eqb, List, [], ◌∷◌, ℤ, pos, ◌+ℤ◌, neg_ℤ, sym, refl, ap, ◌∙◌, arith}
 use Rattle.std.proofs.lemmas.Int.{ints}
-use Rattle.std.proofs.lemmas.Bool.{cases_Bool}
 use Rattle.foundation.specs.Sums.{sum_to, sum_to_int}
 use Rattle.foundation.proofs.Sums.{sum_to_add, sum_to_more, sum_to_none, sum_to_zero, sum_to_int_eq, sum_to_int_more, sum_to_int_none}
-use Rattle.recovery.specs.Shares.{Alike, Basis, basis_of, cmpf, crmpf, share_paid}
+use Rattle.recovery.specs.Shares.{Basis, basis_of, cmpf, crmpf, share_paid}
 use Rattle.recovery.proofs.Laws.{exact_divisor, share_alike, share_near, share_nought, shares_whole}
 use Rattle.book.specs.declared.state.State.{State}
 use Rattle.book.specs.declared.state.State.TheVariants as state
-use Rattle.book.specs.History.{Claimed, History, claimed, declared, paid, recovered, recovered_claims, recoveries, refused, regions_of, returned, standing, ticks, withdrawn}
+use Rattle.book.specs.History.{History, claimed, declared, paid, recovered, recovered_claims, recoveries, refused, regions_of, returned, standing, ticks, withdrawn}
 use Rattle.book.specs.Kept.{Kept, held_in, serial_in}
 use Rattle.book.specs.Settled.{AllAlike, Charged, Each, Likened, Settled}
 

@@ -1,7 +1,7 @@
 -- What each call that was carried out adds to a history.
-use Rattle.std.proofs.Common.{◌≡◌, ℕ, suc, ◌+◌, ◌<◌, ◌≤◌, Bool, true, false, cond, not, ◌&&◌, eqb, leb, List, [], ◌∷◌, length, ℤ, Some, None, Option, sym, refl, ap, ◌∙◌, subst, arith}
+use Rattle.std.proofs.Common.{◌≡◌, ℕ, suc, ◌+◌, ◌<◌, ◌≤◌, Bool, true, false, not, ◌&&◌, eqb, leb, List, ◌∷◌, length, ℤ, Some, None, Option, sym, refl}
 use Rattle.std.proofs.lemmas.Bool.{and_parts, eqb-true, leb-true, true≢false}
-use Rattle.foundation.specs.Fault.{Refused, unless_in}
+use Rattle.foundation.specs.Fault.{unless_in}
 use Rattle.foundation.specs.First.{first_to, or_else}
 use Rattle.foundation.proofs.First.{some_none}
 use Rattle.sampling.specs.declared.factors.Factors.{Factors}

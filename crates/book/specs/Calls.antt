@@ -1,12 +1,12 @@
 -- When each call is refused, in which order, and what it leaves.
-use Rattle.std.specs.Prelude.{◌≡◌, ℕ, suc, ◌+◌, ◌*◌, Bool, true, false, cond, not, ◌&&◌, List, length, Some, None, Ok, Err, Option, Result, ◌==◌, nat_eq, nat_le, nat_lt, slice_index_or}
+use Rattle.std.specs.Prelude.{◌≡◌, ℕ, suc, ◌*◌, Bool, false, cond, not, ◌&&◌, List, length, Some, None, Ok, Err, Option, Result, ◌==◌, nat_eq, nat_le, nat_lt, slice_index_or}
 use Rattle.foundation.specs.Fault.{Refused, refused_in, told, unless_in}
 use Rattle.foundation.specs.First.{all_to, first_to, or_else}
 use Rattle.foundation.specs.Sums.{sum_to}
 use Rattle.energy.specs.Energy.{member}
 use Rattle.sampling.specs.declared.factors.Factors.{Factors}
 use Rattle.recovery.specs.Recovery.{lines_fault, nobody_fault}
-use Rattle.recovery.specs.Shares.{Basis, basis_of}
+use Rattle.recovery.specs.Shares.{Basis}
 use Rattle.book.specs.declared.claim.Claim.{Claim}
 use Rattle.book.specs.declared.claim.OpenClaim.{OpenClaim}
 use Rattle.book.specs.declared.claim.Returned.{Returned}

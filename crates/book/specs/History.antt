@@ -1,5 +1,5 @@
 -- What a book has gone through, read from the calls and their answers alone, the newest first.
-use Rattle.std.specs.Prelude.{◌≡◌, ℕ, suc, ◌+◌, Bool, cond, not, List, [], ◌∷◌, ◌==◌}
+use Rattle.std.specs.Prelude.{ℕ, suc, ◌+◌, cond, List, [], ◌∷◌, ◌==◌}
 use Rattle.sampling.specs.declared.factors.Factors.{Factors}
 use Rattle.recovery.specs.Shares.{Basis, basis_of, share_paid}
 

@@ -1,6 +1,6 @@
 -- How a book stands to what it has gone through. The calls carry it along, so nobody has to believe it.
 use Rattle.std.specs.Prelude.{◌≡◌, ℕ, ◌+◌, ◌<◌, ◌≤◌, List, [], ◌∷◌, ℤ, pos, neg_ℤ}
-use Rattle.recovery.specs.Shares.{Basis, cmpf, crmpf}
+use Rattle.recovery.specs.Shares.{cmpf, crmpf}
 use Rattle.book.specs.declared.state.State.{State}
 use Rattle.book.specs.declared.state.State.TheVariants as state
 use Rattle.book.specs.History.{Claimed, History, claims, of_number, paid, recovered_claims, recoveries, regions_of, returned_claims, serials, standing, still_open, ticks}

@@ -1,10 +1,7 @@
 -- What the state of a number says.
-use Rattle.std.specs.Prelude.{◌≡◌, ℕ, suc, ◌-◌, Bool, true, false, cond, not, ◌&&◌, List, Some, None, Option, nat_le, slice_index_or}
+use Rattle.std.specs.Prelude.{ℕ, suc, ◌-◌, Bool, true, false, cond, ◌&&◌, List, Some, None, Option, nat_le, slice_index_or}
 use Rattle.foundation.specs.declared.interval.WeekInterval.{WeekInterval}
-use Rattle.book.specs.declared.state.Kind.{Kind}
-use Rattle.book.specs.declared.state.Kind.TheVariants.{Regulation, Delayed}
 use Rattle.book.specs.declared.state.Declaration.{Declaration}
-use Rattle.book.specs.declared.state.Pending.{Pending}
 use Rattle.book.specs.declared.state.State.{State}
 use Rattle.book.specs.declared.state.State.TheVariants.{Free, Declared, Claimed}
 

@@ -1,5 +1,5 @@
 -- Payments worked out in figures.
-use Rattle.std.specs.Prelude.{◌≡◌, ℕ, List, [], ◌∷◌}
+use Rattle.std.specs.Prelude.{◌≡◌, ℕ, [], ◌∷◌}
 use Rattle.book.specs.declared.term.Term.{Term}
 use Rattle.book.specs.Calls.{payment}
 

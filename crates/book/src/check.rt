@@ -1,6 +1,6 @@
 // What a caller asks, checked before its number's state counts, in the order in which faults are due.
 ghost use Rattle.std.specs.Prelude.{◌≡◌, ◌&&◌, IfOk, nat_le, nat_lt};
-ghost use Rattle.foundation.specs.Fault.{refusal as faultOf, unless_in};
+ghost use Rattle.foundation.specs.Fault.{refusal as fault_of, unless_in};
 ghost use Rattle.book.specs.Calls.{number_fault};
 ghost use Rattle.book.specs.Checks.{Proposes, Ranged, declaration_fault, kind_of, request_fault, terms_fault};
 
@@ -34,7 +34,7 @@ fn out_of_range(place: usize) -> Fault
 }
 
 pub(crate) fn check_number(number: u8) -> Result<(), Fault>
-    ensures { faultOf result ≡ number_fault number }
+    ensures { fault_of result ≡ number_fault number }
 {
     if number < 1 || number > NUMBERS {
         return Err(out_of_range(0));
@@ -44,7 +44,7 @@ pub(crate) fn check_number(number: u8) -> Result<(), Fault>
 
 // The kind of requirement that a declaration is for.
 pub(crate) fn check_declaration(number: u8, kind: u8, regions: u8) -> Result<Kind, Fault>
-    ensures answer { faultOf result ≡ declaration_fault number kind regions }
+    ensures answer { fault_of result ≡ declaration_fault number kind regions }
     ensures value { IfOk result (λ k. k ≡ kind_of kind) }
 {
     check_number(number)?;
@@ -61,7 +61,7 @@ pub(crate) fn check_declaration(number: u8, kind: u8, regions: u8) -> Result<Kin
 }
 
 fn check_term(term: Term, place: usize) -> Result<(), Fault>
-    ensures { faultOf result ≡ unless_in 3 (nat_lt term.region 5 && ((nat_le 1 term.service && nat_le term.service 2) && nat_le term.amount 20000)) 2 place }
+    ensures { fault_of result ≡ unless_in 3 (nat_lt term.region 5 && ((nat_le 1 term.service && nat_le term.service 2) && nat_le term.amount 20000)) 2 place }
 {
     if term.region >= REGIONS {
         return Err(out_of_range(place));
@@ -76,7 +76,7 @@ fn check_term(term: Term, place: usize) -> Result<(), Fault>
 }
 
 fn check_terms(terms: &[Term]) -> Result<(), Fault>
-    ensures { faultOf result ≡ terms_fault terms.now }
+    ensures { fault_of result ≡ terms_fault terms.now }
 {
     for (place, term) in terms.iter().enumerate() {
         check_term(*term, place)?;
@@ -91,7 +91,7 @@ pub(crate) fn check_request(
     value: u32,
     terms: &[Term],
 ) -> Result<WeekInterval, Fault>
-    ensures answer { faultOf result ≡ request_fault number interval value terms.now }
+    ensures answer { fault_of result ≡ request_fault number interval value terms.now }
     ensures value { IfOk result (λ i. i.number ≡ interval) }
 {
     if terms.len() > MOST_TERMS {

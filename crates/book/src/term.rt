@@ -1,7 +1,7 @@
 // One term of a claim: what was enabled in a region for a service.
 ghost use Rattle.std.specs.Prelude.{◌≡◌, ℕ, ◌<◌, ◌≤◌, length};
 ghost use Rattle.foundation.specs.Sums.{sum_to};
-ghost use Rattle.book.specs.Calls.{amount_at, payment as paymentFor, region_at};
+ghost use Rattle.book.specs.Calls.{amount_at, payment as payment_for, region_at};
 ghost use Rattle.book.specs.Checks.{is_delayed, outer_fault};
 ghost use Rattle.book.specs.Table.{outside_fault};
 
@@ -58,7 +58,7 @@ fn enabled(terms: &[Term]) -> u64
 // What the enabled amounts cost, in ticks.
 pub(crate) fn payment(value: u32, terms: &[Term]) -> u64
     requires { length terms.now ≤ 10 }
-    ensures { result ≡ paymentFor value terms.now }
+    ensures { result ≡ payment_for value terms.now }
 {
     u64::from(value) * enabled(terms)
 }

@@ -238,7 +238,7 @@ fn refuses_pairs<L: Ledger>(book: &mut Book, ledger: &L) -> bool {
 
 #[test]
 fn claims_with_one_fault(rt: HostRuntime) -> Result<(), Fail> {
-    let case = Case::worked(rt.alloc())?;
+    let case = Case::worked(&rt, rt.alloc())?;
     let mut table = Table::new();
     let mut book = begin(&rt, &case, &mut table)?;
     assert!(rt; refuses_alone(&mut book, &table));
@@ -248,7 +248,7 @@ fn claims_with_one_fault(rt: HostRuntime) -> Result<(), Fail> {
 
 #[test]
 fn claims_with_two_faults(rt: HostRuntime) -> Result<(), Fail> {
-    let case = Case::worked(rt.alloc())?;
+    let case = Case::worked(&rt, rt.alloc())?;
     let mut table = Table::new();
     let mut book = begin(&rt, &case, &mut table)?;
     assert!(rt; refuses_pairs(&mut book, &table));

@@ -98,7 +98,7 @@ fn has_no_serial(book: &mut Book) -> bool {
 
 #[test]
 fn declarations_that_are_refused(rt: HostRuntime) -> Result<(), Fail> {
-    let case = Case::worked(rt.alloc())?;
+    let case = Case::worked(&rt, rt.alloc())?;
     let mut table = Table::new();
     let mut book = begin(&rt, &case, &mut table)?;
     assert!(rt; refuses_to_declare(&mut book, &table));
@@ -108,7 +108,7 @@ fn declarations_that_are_refused(rt: HostRuntime) -> Result<(), Fail> {
 
 #[test]
 fn withdrawals_that_are_refused(rt: HostRuntime) -> Result<(), Fail> {
-    let case = Case::worked(rt.alloc())?;
+    let case = Case::worked(&rt, rt.alloc())?;
     let mut table = Table::new();
     let mut book = begin(&rt, &case, &mut table)?;
     assert!(rt; refuses_to_withdraw(&mut book, &table));

@@ -11,6 +11,7 @@ use ledger::posting::Ledger;
 use sampling::factors::Factors;
 use sampling::state::Sampling;
 use std::alloc::Global;
+use std::process::Abort;
 use std::test::*;
 
 // Terms of 1,200 tenths of a MW in regions 0 and 1: region, service and amount.
@@ -51,10 +52,10 @@ fn interval() -> [u8; 624] {
     bytes
 }
 
-fn sampled(heap: Global) -> Result<Sampling, Fail> {
+fn sampled(rt: &impl Abort, heap: Global) -> Result<Sampling, Fail> {
     let mut sampling = Sampling::open(heap);
-    assert!(sampling.register(&[1, 2, 64]).is_ok());
-    assert!(sampling.add_interval(&interval()).is_ok());
+    assert!(rt; sampling.register(&[1, 2, 64]).is_ok());
+    assert!(rt; sampling.add_interval(&interval()).is_ok());
     Ok(sampling)
 }
 
@@ -77,16 +78,16 @@ fn energies() -> [u8; 40] {
     bytes
 }
 
-fn worked_factors(heap: Global) -> Result<Factors, Fail> {
-    let factors = sampled(heap)?.publish();
-    assert!(factors.factor(1) == 600_000 && factors.factor(2) == 300_000);
-    assert!(factors.residual() == 100_000);
+fn worked_factors(rt: &impl Abort, heap: Global) -> Result<Factors, Fail> {
+    let factors = sampled(rt, heap)?.publish();
+    assert!(rt; factors.factor(1) == 600_000 && factors.factor(2) == 300_000);
+    assert!(rt; factors.residual() == 100_000);
     Ok(factors)
 }
 
 impl Case {
-    pub(crate) fn worked(heap: Global) -> Result<Case, Fail> {
-        let factors = worked_factors(heap)?;
+    pub(crate) fn worked(rt: &impl Abort, heap: Global) -> Result<Case, Fail> {
+        let factors = worked_factors(rt, heap)?;
         Ok(Case {
             factors,
             source: Metered::new(&energies()),

@@ -41,7 +41,7 @@ fn questions_of_a_new_book(rt: HostRuntime) -> Result<(), Fail> {
 
 #[test]
 fn questions_over_both_ledgers(rt: HostRuntime) -> Result<(), Fail> {
-    let case = Case::worked(rt.alloc())?;
+    let case = Case::worked(&rt, rt.alloc())?;
     is_asked(&rt, &case, &mut Table::new())?;
     is_asked(&rt, &case, &mut Journal::new(&mut [0xaa; 100]))
 }

@@ -276,7 +276,7 @@ fn agree<A: Ledger, B: Ledger>(one: &A, other: &B) -> bool {
 
 #[test]
 fn claims_that_are_not_open(rt: HostRuntime) -> Result<(), Fail> {
-    let case = Case::worked(rt.alloc())?;
+    let case = Case::worked(&rt, rt.alloc())?;
     let mut table = Table::new();
     let mut book = begin(&rt, &case, &mut table)?;
     assert!(rt; refuses_foreign(&case, &mut book, &mut table) && table.lines_left() == 999_995);
@@ -285,7 +285,7 @@ fn claims_that_are_not_open(rt: HostRuntime) -> Result<(), Fail> {
 
 #[test]
 fn not_open_comes_first(rt: HostRuntime) -> Result<(), Fail> {
-    let case = Case::worked(rt.alloc())?;
+    let case = Case::worked(&rt, rt.alloc())?;
     let mut table = Table::new();
     let mut book = begin(&rt, &case, &mut table)?;
     // nobody has energy, or no line is left, or both
@@ -300,7 +300,7 @@ fn not_open_comes_first(rt: HostRuntime) -> Result<(), Fail> {
 
 #[test]
 fn nobody_to_pay(rt: HostRuntime) -> Result<(), Fail> {
-    let case = Case::worked(rt.alloc())?;
+    let case = Case::worked(&rt, rt.alloc())?;
     let mut table = Table::new();
     assert!(rt; finds_nobody(&case, &mut table) && table.lines_left() == 1_000_000);
     // also with no line left
@@ -311,7 +311,7 @@ fn nobody_to_pay(rt: HostRuntime) -> Result<(), Fail> {
 #[test]
 fn too_few_lines(rt: HostRuntime) -> Result<(), Fail> {
     let heap = rt.alloc();
-    let case = Case::worked(heap)?;
+    let case = Case::worked(&rt, heap)?;
     // no record, two records, and two with 15 bytes more; three are needed
     for (length, left) in [(0usize, 0u32), (32, 2), (47, 2)] {
         let mut bytes = vec![in heap; 0xaau8; length]?;
@@ -323,7 +323,7 @@ fn too_few_lines(rt: HostRuntime) -> Result<(), Fail> {
 
 #[test]
 fn a_claim_of_another_book_with_the_same_figures(rt: HostRuntime) -> Result<(), Fail> {
-    let case = Case::worked(rt.alloc())?;
+    let case = Case::worked(&rt, rt.alloc())?;
     let mut bytes = [0xaa; 128];
     let mut table = Table::new();
     let mut journal = Journal::new(&mut bytes);
@@ -335,7 +335,7 @@ fn a_claim_of_another_book_with_the_same_figures(rt: HostRuntime) -> Result<(), 
 
 #[test]
 fn a_claim_after_its_twin(rt: HostRuntime) -> Result<(), Fail> {
-    let case = Case::worked(rt.alloc())?;
+    let case = Case::worked(&rt, rt.alloc())?;
     let mut table = Table::new();
     assert!(rt; is_second(&case, &mut Book::open(), &mut table));
     Ok(())
@@ -343,7 +343,7 @@ fn a_claim_after_its_twin(rt: HostRuntime) -> Result<(), Fail> {
 
 #[test]
 fn a_twin_that_is_handed_back(rt: HostRuntime) -> Result<(), Fail> {
-    let case = Case::worked(rt.alloc())?;
+    let case = Case::worked(&rt, rt.alloc())?;
     let mut table = Table::new();
     let mut book = begin(&rt, &case, &mut table)?;
     assert!(rt; takes_twin_back(&mut book) && is_begun(&book, &table));

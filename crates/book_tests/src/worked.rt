@@ -116,7 +116,7 @@ fn check_worked<L: Ledger>(rt: &impl Abort, case: &Case, ledger: &mut L) -> Resu
 
 #[test]
 fn a_number_declared_anew(rt: HostRuntime) -> Result<(), Fail> {
-    let case = Case::worked(rt.alloc())?;
+    let case = Case::worked(&rt, rt.alloc())?;
     assert!(rt; keeps_serials(&case, &mut Book::open(), &mut Table::new()));
     assert!(rt; keeps_serials(&case, &mut Book::open(), &mut Journal::new(&mut [0xaa; 48])));
     Ok(())
@@ -124,7 +124,7 @@ fn a_number_declared_anew(rt: HostRuntime) -> Result<(), Fail> {
 
 #[test]
 fn intervals_after_the_last(rt: HostRuntime) -> Result<(), Fail> {
-    let case = Case::worked(rt.alloc())?;
+    let case = Case::worked(&rt, rt.alloc())?;
     let mut table = Table::new();
     let mut book = begin(&rt, &case, &mut table)?;
     assert!(rt;
@@ -139,7 +139,7 @@ fn intervals_after_the_last(rt: HostRuntime) -> Result<(), Fail> {
 
 #[test]
 fn a_recovery_raises_the_last_interval(rt: HostRuntime) -> Result<(), Fail> {
-    let case = Case::worked(rt.alloc())?;
+    let case = Case::worked(&rt, rt.alloc())?;
     let mut table = Table::new();
     let mut book = begin(&rt, &case, &mut table)?;
     let answer = case.settle(&mut book, &mut table, 1, 2_015, 300, &WORKED_TERMS, 360_000);
@@ -153,7 +153,7 @@ fn a_recovery_raises_the_last_interval(rt: HostRuntime) -> Result<(), Fail> {
 
 #[test]
 fn the_largest_payment(rt: HostRuntime) -> Result<(), Fail> {
-    let case = Case::worked(rt.alloc())?;
+    let case = Case::worked(&rt, rt.alloc())?;
     let mut table = Table::new();
     let mut book = Book::open();
     assert!(rt; book.declare(1, 1, 3).is_ok());
@@ -186,7 +186,7 @@ fn payments(rt: HostRuntime) -> Result<(), Fail> {
 
 #[test]
 fn the_worked_recovery(rt: HostRuntime) -> Result<(), Fail> {
-    let case = Case::worked(rt.alloc())?;
+    let case = Case::worked(&rt, rt.alloc())?;
     check_worked(&rt, &case, &mut Table::new())?;
     check_worked(&rt, &case, &mut Journal::new(&mut [0xaa; 48]))
 }

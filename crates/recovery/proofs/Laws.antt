@@ -1,8 +1,8 @@
 -- Laws of the shares of one recovery, over the definitions alone.
-use Rattle.std.proofs.Common.{◌≡◌, ℕ, zero, suc, ◌+◌, ◌*◌, ◌/◌, ◌<◌, ◌≤◌, Bool, true, false, cond, ◌&&◌, ltb, ◌⊎◌, sym, refl, ap, ◌∙◌, inl, inr, ⊎_elim, mul-le-mul_right, mul-le-mul_left, arith}
+use Rattle.std.proofs.Common.{◌≡◌, ℕ, ◌+◌, ◌*◌, ◌/◌, ◌<◌, ◌≤◌, Bool, true, false, cond, ◌&&◌, ltb, ◌⊎◌, sym, refl, ap, ◌∙◌, inl, inr, ⊎_elim, mul-le-mul_right, mul-le-mul_left, arith}
 use native.Mathlib.Nat.{zero-div}
 use Rattle.std.proofs.lemmas.Bool.{cases_lt, lt-ltb, le-ltb}
-use Rattle.foundation.specs.Division.{share, without}
+use Rattle.foundation.specs.Division.{share}
 use Rattle.foundation.specs.Sums.{sum_to}
 use Rattle.foundation.proofs.Sums.{sum_to_more, sum_to_eq, sum_to_zero, sum_to_add, sum_to_one_le}
 use Rattle.foundation.proofs.Shares.{share_whole, share_above, share_below, share_nothing, share_none, share_eq, share_without}

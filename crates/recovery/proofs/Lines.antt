@@ -1,5 +1,5 @@
 -- How many lines some shares take.
-use Rattle.std.proofs.Common.{◌≡◌, ℕ, suc, ◌+◌, ◌<◌, ◌≤◌, cond, eqb, sym, refl, ap, ◌∙◌, add-one, arith}
+use Rattle.std.proofs.Common.{◌≡◌, ℕ, suc, ◌+◌, ◌<◌, ◌≤◌, cond, eqb, ap, ◌∙◌, add-one, arith}
 use Rattle.std.proofs.lemmas.Bool.Decides.{nat_tests}
 use Rattle.foundation.proofs.Sums.{sum_to_none, sum_to_more, sum_to_mono, sum_to_eq, sum_to_bound}
 use Rattle.recovery.specs.Shares.{Basis, Alike, lines_for, lines_of, share_paid}

@@ -1,5 +1,5 @@
 -- Shares taken from the amounts of a ledger, one party at a time.
-use Rattle.std.proofs.Common.{◌≡◌, ℕ, zero, suc, ◌+◌, ◌<◌, ◌≤◌, Bool, true, false, cond, ◌&&◌, eqb, ltb, leb, ◌≢◌, ℤ, pos, ◌+ℤ◌, neg_ℤ, nat_abs, None, sym, refl, ap, ◌∙◌, ⊎_elim, arith, w64, to_z, of_z, eq-eqb, ne_eqb}
+use Rattle.std.proofs.Common.{◌≡◌, ℕ, zero, suc, ◌+◌, ◌<◌, ◌≤◌, Bool, true, false, cond, ◌&&◌, eqb, ltb, leb, ◌≢◌, ℤ, pos, ◌+ℤ◌, neg_ℤ, None, sym, refl, ap, ◌∙◌, ⊎_elim, arith, w64, to_z, of_z, eq-eqb, ne_eqb}
 use lib.Signed.{le_z}
 use Rattle.std.proofs.lemmas.Int.{ints, to_z-of_z}
 use Rattle.std.proofs.lemmas.Bool.{cases_eq, cases_lt, le-leb, lt-ltb, le-ltb}

@@ -1,11 +1,11 @@
 -- The recovery that is worked out in figures.
-use Rattle.std.proofs.Common.{◌≡◌, ℕ, zero, suc, ◌+◌, ◌<◌, ◌≤◌, Bool, true, false, cond, ◌&&◌, eqb, sym, refl, ap, ◌∙◌, arith}
+use Rattle.std.proofs.Common.{◌≡◌, ℕ, zero, suc, ◌<◌, ◌≤◌, Bool, true, false, cond, eqb, sym, refl, ◌∙◌, arith}
 use Rattle.std.proofs.lemmas.Bool.Decides.{nat_tests}
 use Rattle.foundation.specs.Division.{share}
 use Rattle.foundation.specs.Sums.{sum_to}
 use Rattle.foundation.proofs.Sums.{sum_to_zero}
 use Rattle.energy.specs.Energy.{member, within}
-use Rattle.recovery.specs.Shares.{held_in, energy_in, causer, customer, atce, cmpf, crmpf, weight, residual_part_of, share_paid, lines_for, lines_of}
+use Rattle.recovery.specs.Shares.{held_in, energy_in, causer, customer, atce, cmpf, crmpf, weight, residual_part_of, share_paid, lines_for}
 use Rattle.recovery.specs.Worked.{worked_basis, WorkedRecovery}
 use Rattle.recovery.proofs.Laws.{held_is, share_nought}
 use Rattle.recovery.proofs.Lines.{lines_eq}

@@ -2,7 +2,7 @@
 use Rattle.std.specs.Prelude.{◌≡◌, ℕ, ◌<◌, cond, nat_lt}
 use Rattle.foundation.specs.Sums.{listed}
 use Rattle.recovery.specs.declared.split.Split.{Split}
-use Rattle.recovery.specs.Shares.{Basis, Shared, energy_in, atce, cmpf, crmpf, residual_part_of, lines_for}
+use Rattle.recovery.specs.Shares.{Basis, Shared, energy_in, atce, cmpf, crmpf, residual_part_of}
 
 -- what a split answers of a party, nothing out of range
 abbrev pub share_in : Split → ℕ → ℕ

@@ -7,6 +7,7 @@ use recovery::split::Split;
 use sampling::factors::Factors;
 use sampling::state::Sampling;
 use std::alloc::{AllocError, Global};
+use std::process::Abort;
 use std::test::*;
 
 // The worked energies: party, region and kWh.
@@ -52,18 +53,18 @@ fn interval() -> [u8; 780] {
 }
 
 // Parties 1 and 2, the residual and party 6 have a unit each.
-fn sampled(heap: Global) -> Result<Sampling, Fail> {
+fn sampled(rt: &impl Abort, heap: Global) -> Result<Sampling, Fail> {
     let mut sampling = Sampling::open(heap);
-    assert!(sampling.register(&[1, 2, 64, 6]).is_ok());
-    assert!(sampling.add_interval(&interval()).is_ok());
+    assert!(rt; sampling.register(&[1, 2, 64, 6]).is_ok());
+    assert!(rt; sampling.add_interval(&interval()).is_ok());
     Ok(sampling)
 }
 
 // The worked factors, and party 6 is factored at 0.
-pub(crate) fn factors(heap: Global) -> Result<Factors, Fail> {
-    let factors = sampled(heap)?.publish();
-    assert!(factors.factor(1) == 600_000 && factors.factor(2) == 300_000);
-    assert!(factors.residual() == 100_000 && factors.factor(6) == 0 && factors.is_factored(6));
+pub(crate) fn factors(rt: &impl Abort, heap: Global) -> Result<Factors, Fail> {
+    let factors = sampled(rt, heap)?.publish();
+    assert!(rt; factors.factor(1) == 600_000 && factors.factor(2) == 300_000);
+    assert!(rt; factors.residual() == 100_000 && factors.factor(6) == 0 && factors.is_factored(6));
     Ok(factors)
 }
 
@@ -90,8 +91,8 @@ pub(crate) fn metered(heap: Global, records: &[(u16, u8, u32)]) -> Result<Metere
 }
 
 impl Case {
-    pub(crate) fn worked(heap: Global) -> Result<Case, Fail> {
-        let factors = factors(heap)?;
+    pub(crate) fn worked(rt: &impl Abort, heap: Global) -> Result<Case, Fail> {
+        let factors = factors(rt, heap)?;
         let source = metered(heap, &ENERGIES)?;
         Ok(Case { factors, source })
     }

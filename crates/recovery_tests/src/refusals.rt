@@ -99,7 +99,7 @@ fn has_one_payer(case: &Case) -> bool {
 
 #[test]
 fn each_refusal_on_a_table(rt: HostRuntime) -> Result<(), Fail> {
-    let case = Case::worked(rt.alloc())?;
+    let case = Case::worked(&rt, rt.alloc())?;
     assert!(rt; refuses_to_split(&case));
     let mut table = Table::new();
     assert!(rt; keeps(&case, &mut table, &[], 1_000_000));
@@ -110,7 +110,7 @@ fn each_refusal_on_a_table(rt: HostRuntime) -> Result<(), Fail> {
 #[test]
 fn too_few_lines_come_last(rt: HostRuntime) -> Result<(), Fail> {
     let heap = rt.alloc();
-    let case = Case::worked(heap)?;
+    let case = Case::worked(&rt, heap)?;
     // no record, two records, and two with 15 bytes more; three are needed
     for (length, left) in [(0usize, 0u32), (32, 2), (47, 2)] {
         let mut bytes = vec![in heap; 0xaau8; length]?;
@@ -122,7 +122,7 @@ fn too_few_lines_come_last(rt: HostRuntime) -> Result<(), Fail> {
 
 #[test]
 fn a_second_recovery_without_room(rt: HostRuntime) -> Result<(), Fail> {
-    let case = Case::worked(rt.alloc())?;
+    let case = Case::worked(&rt, rt.alloc())?;
     assert!(rt; has_room_for_two(&case, &mut [0; 80]));
     Ok(())
 }
@@ -130,7 +130,7 @@ fn a_second_recovery_without_room(rt: HostRuntime) -> Result<(), Fail> {
 #[test]
 fn nobody_to_pay(rt: HostRuntime) -> Result<(), Fail> {
     let heap = rt.alloc();
-    let mut case = Case::worked(heap)?;
+    let mut case = Case::worked(&rt, heap)?;
     // only a party that is factored at 0 has energy in region 0
     case.source = metered(heap, &[(6, 0, 1_000), (3, 2, 30)])?;
     assert!(rt; has_no_payer(&case));

@@ -143,7 +143,7 @@ fn is_without_6(case: &Case) -> bool {
 
 #[test]
 fn the_worked_recovery(rt: HostRuntime) -> Result<(), Fail> {
-    let case = Case::worked(rt.alloc())?;
+    let case = Case::worked(&rt, rt.alloc())?;
     let mut table = Table::new();
     assert!(rt; case.is_worked(&mut table) && table.lines_left() == 999_997);
     let mut bytes = [0xaa; 48];
@@ -154,7 +154,7 @@ fn the_worked_recovery(rt: HostRuntime) -> Result<(), Fail> {
 
 #[test]
 fn recoveries_add_up(rt: HostRuntime) -> Result<(), Fail> {
-    let case = Case::worked(rt.alloc())?;
+    let case = Case::worked(&rt, rt.alloc())?;
     let mut table = Table::new();
     assert!(rt; adds_up(&case, &mut table) && table.lines_left() == 999_989);
     assert!(rt; adds_up(&case, &mut Journal::new(&mut [0; 176])));
@@ -164,7 +164,7 @@ fn recoveries_add_up(rt: HostRuntime) -> Result<(), Fail> {
 #[test]
 fn a_party_factored_at_0(rt: HostRuntime) -> Result<(), Fail> {
     let heap = rt.alloc();
-    let mut case = Case::worked(heap)?;
+    let mut case = Case::worked(&rt, heap)?;
     let [one, two, three, four, five] = ENERGIES;
     case.source = metered(
         heap,
@@ -176,14 +176,14 @@ fn a_party_factored_at_0(rt: HostRuntime) -> Result<(), Fail> {
 
 #[test]
 fn an_island_over_metered_energies(rt: HostRuntime) -> Result<(), Fail> {
-    let case = Case::worked(rt.alloc())?;
+    let case = Case::worked(&rt, rt.alloc())?;
     assert!(rt; is_an_island(&case, 3, 4) && is_an_island(&case, 31, 28));
     Ok(())
 }
 
 #[test]
 fn the_smallest_and_the_largest_part(rt: HostRuntime) -> Result<(), Fail> {
-    let case = Case::worked(rt.alloc())?;
+    let case = Case::worked(&rt, rt.alloc())?;
     assert!(rt; posts(&case, 1, 1, &[(5, 2, -1)]));
     assert!(rt; posts(&case, 2, 2, &[(1, 2, -1), (5, 2, -1)]));
     assert!(rt; posts(&case, 200_000_000_000, 3, &LARGEST));
@@ -192,7 +192,7 @@ fn the_smallest_and_the_largest_part(rt: HostRuntime) -> Result<(), Fail> {
 
 #[test]
 fn what_is_owed_is_the_part(rt: HostRuntime) -> Result<(), Fail> {
-    let case = Case::worked(rt.alloc())?;
+    let case = Case::worked(&rt, rt.alloc())?;
     for (part, owed) in PARTS {
         assert!(rt; is_owed(&case, part, owed));
     }
@@ -202,7 +202,7 @@ fn what_is_owed_is_the_part(rt: HostRuntime) -> Result<(), Fail> {
 #[test]
 fn without_a_party(rt: HostRuntime) -> Result<(), Fail> {
     let heap = rt.alloc();
-    let mut case = Case::worked(heap)?;
+    let mut case = Case::worked(&rt, heap)?;
     for (party, cmpf, crmpf, lines, [one, three, five]) in WITHOUT {
         case.source = metered_without(heap, &ENERGIES, party)?;
         let amounts = [(1, 1, one), (3, 1, three), (5, 1, five)];

@@ -1,3 +1,5 @@
 // Lists of calls run on a book.
+#![tactic(auto)]
+
 pub mod call;
 pub mod run;

@@ -1,6 +1,6 @@
 // The calls of a book, each refused in the stated order; a refused one leaves the book as it stood.
 ghost use Rattle.std.specs.Prelude.{◌≡◌, ℕ, suc, ◌<◌, ◌≤◌, true, [], ◌∷◌, ℤ, pos, is_err, IfOk};
-ghost use Rattle.foundation.specs.Fault.{refusal as faultOf};
+ghost use Rattle.foundation.specs.Fault.{refusal as fault_of};
 ghost use Rattle.book.specs.Calls.{after_call, count_after, declaration_in, declare_event, declare_fault, declared_state, open_in, withdraw_event, withdraw_fault};
 ghost use Rattle.book.specs.History.{History};
 ghost use Rattle.book.specs.Kept.{Kept};
@@ -28,7 +28,7 @@ impl Book {
 
     // Declares a requirement under a free number, and answers its serial.
     pub fn declare(&mut self, number: u8, kind: u8, regions: u8) -> Result<u16, Fault>
-        ensures answer { faultOf result ≡ declare_fault number kind regions (state_in self.old.states number) self.old.made }
+        ensures answer { fault_of result ≡ declare_fault number kind regions (state_in self.old.states number) self.old.made }
         ensures value { IfOk result (λ serial. serial ≡ suc self.old.made) }
         ensures states { (n : ℕ) → state_in self.new.states n ≡ after_call result number (declared_state kind regions (suc self.old.made)) (state_in self.old.states) n }
         ensures count { self.new.made ≡ count_after result self.old.made }
@@ -50,7 +50,7 @@ impl Book {
 
     // Frees a number that has no open claim.
     pub fn withdraw(&mut self, number: u8) -> Result<(), Fault>
-        ensures answer { faultOf result ≡ withdraw_fault number (state_in self.old.states number) }
+        ensures answer { fault_of result ≡ withdraw_fault number (state_in self.old.states number) }
         ensures states { (n : ℕ) → state_in self.new.states n ≡ after_call result number State.Free (state_in self.old.states) n }
         ensures count { self.new.made ≡ self.old.made }
         ensures refused { is_err result ≡ true → self.new ≡ self.old }

@@ -1,6 +1,6 @@
 // The calls on a book that make a claim and end one.
 ghost use Rattle.std.specs.Prelude.{◌≡◌, ℕ, true, ◌∷◌, ℤ, is_err, IfOk, OnOk};
-ghost use Rattle.foundation.specs.Fault.{refusal as faultOf};
+ghost use Rattle.foundation.specs.Fault.{refusal as fault_of};
 ghost use Rattle.recovery.specs.Recovery.{FallsBy, Outcome, after_recovery};
 ghost use Rattle.recovery.specs.Shares.{Shared, basis_of, lines_of, share_paid};
 ghost use Rattle.book.specs.Calls.{TakenUp, after_call, after_claim, claim_event, claim_fault, declared_in, figures_of, not_open, open_in, recover_event, recovered_state, recovery_fault, return_event, returned_state};
@@ -29,7 +29,7 @@ impl Book {
         terms: &[Term],
         part: u64,
     ) -> Result<Claim, Fault>
-        ensures answer { faultOf result ≡ claim_fault number interval marginal_value terms.now part (state_in self.old.states number) }
+        ensures answer { fault_of result ≡ claim_fault number interval marginal_value terms.now part (state_in self.old.states number) }
         ensures value { IfOk result (λ c. figures_of c.figures ≡ record { number = number; serial = serial_in (state_in self.old.states number); interval = interval; part = part }) }
         ensures states { (n : ℕ) → state_in self.new.states n ≡ after_claim result number (state_in self.old.states) n }
         ensures count { self.new.made ≡ self.old.made }
@@ -66,7 +66,7 @@ impl Book {
         source: &E,
         ledger: &mut L,
     ) -> Result<(u32, u32, u32), Fault>
-        ensures answer { faultOf result ≡ recovery_fault (state_in self.old.states claim.number) claim (basis_of claim.part factors.now (E.EnergySource.kwh source.now)) (L.Ledger.room ledger.old) }
+        ensures answer { fault_of result ≡ recovery_fault (state_in self.old.states claim.number) claim (basis_of claim.part factors.now (E.EnergySource.kwh source.now)) (L.Ledger.room ledger.old) }
         ensures value { IfOk result (λ v. Outcome (declared_in (state_in self.old.states claim.number)) (basis_of claim.part factors.now (E.EnergySource.kwh source.now)) v.0 v.1 v.2) }
         ensures law { OnOk result (Shared (declared_in (state_in self.old.states claim.number)) (basis_of claim.part factors.now (E.EnergySource.kwh source.now)) (share_paid (declared_in (state_in self.old.states claim.number)) (basis_of claim.part factors.now (E.EnergySource.kwh source.now)))) }
         ensures states { (n : ℕ) → state_in self.new.states n ≡ after_call result claim.number (recovered_state (state_in self.old.states claim.number)) (state_in self.old.states) n }
@@ -93,7 +93,7 @@ impl Book {
 
     // Closes an open claim without a recovery.
     pub(crate) fn take_back(&mut self, claim: OpenClaim) -> Result<(), Fault>
-        ensures answer { faultOf result ≡ not_open (state_in self.old.states claim.number) claim }
+        ensures answer { fault_of result ≡ not_open (state_in self.old.states claim.number) claim }
         ensures states { (n : ℕ) → state_in self.new.states n ≡ after_call result claim.number (returned_state (state_in self.old.states claim.number)) (state_in self.old.states) n }
         ensures count { self.new.made ≡ self.old.made }
         ensures refused { is_err result ≡ true → self.new ≡ self.old }

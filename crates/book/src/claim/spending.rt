@@ -1,6 +1,6 @@
 // How a claim ends: it is recovered, handed back, or left open for the book to list.
 ghost use Rattle.std.specs.Prelude.{◌≡◌, ℕ, true, ◌∷◌, ℤ, is_err, IfOk, OnOk};
-ghost use Rattle.foundation.specs.Fault.{refusal as faultOf};
+ghost use Rattle.foundation.specs.Fault.{refusal as fault_of};
 ghost use Rattle.recovery.specs.Recovery.{FallsBy, Outcome, after_recovery};
 ghost use Rattle.recovery.specs.Shares.{Shared, basis_of, lines_of, share_paid};
 ghost use Rattle.book.specs.Calls.{GivenBack, after_call, declared_in, not_open, recover_event, recovered_state, recovery_fault, return_event, returned_for, returned_state};
@@ -60,7 +60,7 @@ impl Claim {
 
     // Hands the claim back, so that its interval may be claimed again. The claim ends, also where it was not open.
     pub fn hand_back(self, book: &mut Book) -> Result<(), Fault>
-        ensures answer { faultOf result ≡ not_open (state_in book.old.states self.figures.number) self.figures }
+        ensures answer { fault_of result ≡ not_open (state_in book.old.states self.figures.number) self.figures }
         ensures states { (n : ℕ) → state_in book.new.states n ≡ after_call result self.figures.number (returned_state (state_in book.old.states self.figures.number)) (state_in book.old.states) n }
         ensures count { book.new.made ≡ book.old.made }
         ensures refused { is_err result ≡ true → book.new ≡ book.old }

@@ -1,6 +1,6 @@
 // The table of a number's states: what each event makes of each state, or why it is refused.
 ghost use Rattle.std.specs.Prelude.{◌≡◌, IfOk, Err, nat_le};
-ghost use Rattle.foundation.specs.Fault.{refusal as faultOf};
+ghost use Rattle.foundation.specs.Fault.{refusal as fault_of};
 ghost use Rattle.book.specs.Calls.{declared_in, is_open, not_open, recovered_state, returned_state};
 ghost use Rattle.book.specs.Kept.{serial_in};
 ghost use Rattle.book.specs.States.{after};
@@ -44,7 +44,7 @@ fn refuse(refusal: Refusal) -> Result<State, Fault>
 }
 
 fn declare(kind: Kind, regions: u8, made: u16) -> Result<State, Fault>
-    ensures answer { faultOf result ≡ table_fault State.Free (Event.Declare kind regions made) }
+    ensures answer { fault_of result ≡ table_fault State.Free (Event.Declare kind regions made) }
     ensures value { IfOk result (λ s. s ≡ table_state State.Free (Event.Declare kind regions made)) }
 {
     if made >= MOST_DECLARATIONS {
@@ -80,7 +80,7 @@ fn is_fitting(kind: Kind, proposal: Proposal) -> bool
 
 // A claim under a declaration.
 fn claim(declaration: Declaration, proposal: Proposal) -> Result<State, Fault>
-    ensures answer { faultOf result ≡ proposal_fault declaration proposal }
+    ensures answer { fault_of result ≡ proposal_fault declaration proposal }
     ensures value { IfOk result (λ s. s ≡ table_state (State.Declared declaration) (Event.Claim proposal)) }
 {
     if !is_next(proposal.interval, declaration.last) {
@@ -144,7 +144,7 @@ fn returned(state: State) -> State
 
 // The state that closes a claim, where it is open.
 fn closed(state: State, claim: OpenClaim, next: State) -> Result<State, Fault>
-    ensures answer { faultOf result ≡ not_open state claim }
+    ensures answer { fault_of result ≡ not_open state claim }
     ensures value { IfOk result (λ s. s ≡ next) }
 {
     if !is_open(state, claim) {
@@ -178,7 +178,7 @@ impl State {
 }
 
 pub(crate) fn decide(state: State, event: Event) -> Result<State, Fault>
-    ensures answer { faultOf result ≡ table_fault state event }
+    ensures answer { fault_of result ≡ table_fault state event }
     ensures value { IfOk result (λ s. s ≡ table_state state event) }
 {
     match (state, event) {

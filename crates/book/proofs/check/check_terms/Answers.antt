@@ -4,12 +4,12 @@ use Rattle.foundation.proofs.First.{first_to_all, first_to_at}
 use Rattle.book.proofs.check.check_terms.Goals as goal
 
 pub loop-place-preserved : goal.loop-place-preserved
-loop-place-preserved c = below_more _ _ c.loop-place.invariant (sym c.in-ok-check-term.ensures)
+loop-place-preserved c = below_more _ _ c.loop-place.invariant (sym c.in_ok-check_term.ensures)
 
-pub returns-in-err-check-term : goal.returns-in-err-check-term
-returns-in-err-check-term c =
-    let p = err_from_is_err_and c.from-residual.result c.from-residual.ensures.1 in
-    rw (p.1, p.2) (sym (first_to_at _ _ c.loop-place.place _ c.loop-place-test.true c.loop-place.invariant (sym c.in-err-check-term.ensures)))
+pub returns-in_err-check_term : goal.returns-in_err-check_term
+returns-in_err-check_term c =
+    let p = err_from_is_err_and c.from_residual.result c.from_residual.ensures.1 in
+    rw (p.1, p.2) (sym (first_to_at _ _ c.loop-place.place _ c.loop-place-test.true c.loop-place.invariant (sym c.in_err-check_term.ensures)))
 
 pub returns : goal.returns
 returns c = sym (first_to_all _ _ (λ k h. c.loop-place.invariant k (omega arith)))

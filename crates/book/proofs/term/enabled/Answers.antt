@@ -6,8 +6,8 @@ use Rattle.book.proofs.term.enabled.Goals as goal
 pub loop-term-init : goal.loop-term-init
 loop-term-init c = (sym (sum_to_none (amount_at c.args.terms.now)), omega arith)
 
-pub overflow-add-sum : goal.overflow-add-sum
-overflow-add-sum c =
+pub overflow_add-sum : goal.overflow_add-sum
+overflow_add-sum c =
     let small : amount_at c.args.terms.now c.loop-term.term-index < 65536 = search rules in
     omega (arith, c.requires, c.loop-term.invariant.1, c.from-sum.ensures)
 

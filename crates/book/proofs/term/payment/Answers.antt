@@ -2,8 +2,8 @@ use Rattle.std.proofs.Common.{◌*◌, ◌≤◌, ap, ◌∙◌, mul-le-mul, ari
 use Rattle.book.specs.Calls.{payment}
 use Rattle.book.proofs.term.payment.Goals as goal
 
-pub overflow-mul-result : goal.overflow-mul-result
-overflow-mul-result c =
+pub overflow_mul-result : goal.overflow_mul-result
+overflow_mul-result c =
     let value : c.from.result ≤ 4294967295 = omega arith in
     omega (arith, mul-le-mul value c.enabled.ensures.small)
 

@@ -1,11 +1,11 @@
-use Rattle.std.proofs.Common.{◌≡◌, ◌+◌, ◌≤◌, cond, ◌&&◌, eqb, pos, ◌+ℤ◌, sym, ap, ◌∙◌, arith, w64, to_z, of_z, rules}
+use Rattle.std.proofs.Common.{◌≡◌, ◌+◌, ◌≤◌, cond, ◌&&◌, eqb, pos, ◌+ℤ◌, sym, ap, ◌∙◌, arith, w64, to_z, of_z}
 use Rattle.foundation.specs.Fault.{told}
 use Rattle.foundation.specs.Sums.{listed}
 use Rattle.foundation.proofs.First.{some_none}
 use Rattle.recovery.proofs.Lines.{lines_none, lines_at, lines_past, lines_mono, lines_few}
 use Rattle.recovery.proofs.Posting.{line_is, post_passes, lowered_none, lowered_at, lowered_past}
 use Rattle.recovery.proofs.recover.post_shares.Goals as goal
-use Rattle.recovery.proofs.recover.post_shares.Goals.{then-share-gt0+in-ok-post, else-share-gt0}
+use Rattle.recovery.proofs.recover.post_shares.Goals.{then-share-gt0+in_ok-post, else-share-gt0}
 
 pub debit-requires : goal.debit-requires
 debit-requires g c = c.requires.sizes c.loop-party.party (omega arith)
@@ -20,8 +20,8 @@ loop-party-init g c =
     )
 
 -- what is still to be posted has its lines, so the post is not refused
-pub returns-in-err-post : goal.returns-in-err-post
-returns-in-err-post g c =
+pub returns-in_err-post : goal.returns-in_err-post
+returns-in_err-post g c =
     let shares = listed c.args.shares.now in
     let k = c.loop-party.party in
     let due = lines_at shares k (omega arith) in
@@ -29,10 +29,10 @@ returns-in-err-post g c =
     let left : 1 ≤ g.L.Ledger.room c.loop-party.ledger = omega (arith, c.requires.room, c.loop-party.invariant.2, due, all) in
     let size = c.requires.sizes k (omega arith) in
     let passes = post_passes k c.args.serial (shares k) (g.L.Ledger.room c.loop-party.ledger) (to_z w64 (of_z w64 c.debit.result)) (omega arith) c.requires.first c.requires.last size left (line_is (shares k) c.debit.result size c.debit.ensures) in
-    absurd (some_none (told c.in-err-post.field-0.0) (c.in-err-post.ensures.answer ∙ passes))
+    absurd (some_none (told c.in_err-post.field-0.0) (c.in_err-post.ensures.answer ∙ passes))
 
-pub overflow-add-lines : goal.overflow-add-lines
-overflow-add-lines g c = record { fits = omega (arith, c.loop-party.invariant.0, lines_few (listed c.args.shares.now) c.loop-party.party) }
+pub overflow_add-lines : goal.overflow_add-lines
+overflow_add-lines g c = record { fits = omega (arith, c.loop-party.invariant.0, lines_few (listed c.args.shares.now) c.loop-party.party) }
 
 pub loop-party-preserved : goal.loop-party-preserved
 loop-party-preserved g c =
@@ -40,9 +40,9 @@ loop-party-preserved g c =
     let k = c.loop-party.party in
     let owed = g.L.Ledger.owed c.args.ledger.now in
     elim c.if-share-gt0.branch [
-      | then-share-gt0+in-ok-post w ↦
+      | then-share-gt0+in_ok-post w ↦
           let due = lines_at shares k (omega arith) in
-          let posts = w.in-ok-post.ensures in
+          let posts = w.in_ok-post.ensures in
           let line = line_is (shares k) w.debit.result (c.requires.sizes k (omega arith)) w.debit.ensures in
           let room = ap g.L.Ledger.room w.ledger-is in (
             omega (arith, due, w.lines-is, c.loop-party.invariant.0),

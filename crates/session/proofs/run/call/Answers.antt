@@ -10,4 +10,4 @@ pub returns-in-Claim : goal.returns-in-Claim
 returns-in-Claim g c = record { told = λ h k. rw c.in-Claim.is (c.claim.ensures.told h _ _ _ k) }
 
 pub returns-in-HandBack : goal.returns-in-HandBack
-returns-in-HandBack g c = record { told = λ h k. rw c.in-HandBack.is (c.hand-back.ensures.told h _ _ _ k) }
+returns-in-HandBack g c = record { told = λ h k. rw c.in-HandBack.is (c.hand_back.ensures.told h _ _ _ k) }

@@ -17,35 +17,35 @@ use Rattle.book.proofs.Terms.{ranged, request_number}
 use Rattle.book.proofs.book.Book.claim.Goals as goal
 
 pub propose-proposal-requires : goal.propose-proposal-requires
-propose-proposal-requires c = ranged c.args.number c.args.interval c.args.marginal-value c.args.terms.now (sym c.in-ok-week-interval.ensures.answer)
+propose-proposal-requires c = ranged c.args.number c.args.interval c.args.marginal_value c.args.terms.now (sym c.in_ok-week_interval.ensures.answer)
 
-pub returns-in-err-week-interval : goal.returns-in-err-week-interval
-returns-in-err-week-interval c =
-    let p = err_from_is_err_and c.from-residual.result c.from-residual.ensures.1 in
+pub returns-in_err-week_interval : goal.returns-in_err-week_interval
+returns-in_err-week_interval c =
+    let p = err_from_is_err_and c.from_residual.result c.from_residual.ensures.1 in
     let state = state_in c.args.self.now.states c.args.number in
     record {
-      answer = rw (p.1, p.2) (claim_early c.args.number c.args.interval c.args.marginal-value c.args.terms.now c.args.part state (told c.in-err-week-interval.field-0.0) c.in-err-week-interval.ensures.answer);
-      value = IfOk-from_err _ _ c.from-residual.ensures.0;
+      answer = rw (p.1, p.2) (claim_early c.args.number c.args.interval c.args.marginal_value c.args.terms.now c.args.part state (told c.in_err-week_interval.field-0.0) c.in_err-week_interval.ensures.answer);
+      value = IfOk-from_err _ _ c.from_residual.ensures.0;
       states = λ n. rw p.1 refl;
       count = refl;
       refused = λ _. refl;
       told = λ h owed k. rw p.1 (kept_refused h _ _ owed k);
     }
 
-pub returns-in-err-next : goal.returns-in-err-next
-returns-in-err-next c =
-    let p = err_from_is_err_and c.from-residual-in-err-next.result c.from-residual-in-err-next.ensures.1 in
+pub returns-in_err-next : goal.returns-in_err-next
+returns-in_err-next c =
+    let p = err_from_is_err_and c.from_residual-in_err-next.result c.from_residual-in_err-next.ensures.1 in
     let state = state_in c.args.self.now.states c.args.number in
-    let asked = c.in-ok-week-interval.ensures in
+    let asked = c.in_ok-week_interval.ensures in
     let proposal = c.propose-proposal.result in
-    let proposes = subst (λ d. Proposes d c.args.marginal-value c.args.terms.now proposal) (c.regions.ensures ∙ ap declared_in c.state-state.ensures) c.propose-proposal.ensures.terms in
+    let proposes = subst (λ d. Proposes d c.args.marginal_value c.args.terms.now proposal) (c.regions.ensures ∙ ap declared_in c.state-state.ensures) c.propose-proposal.ensures.terms in
     record {
       answer =
           rw (p.1, p.2)
-          (claim_late c.args.number c.args.interval c.args.marginal-value c.args.terms.now c.args.part state proposal _ asked.answer proposes
+          (claim_late c.args.number c.args.interval c.args.marginal_value c.args.terms.now c.args.part state proposal _ asked.answer proposes
           (ap (λ i. i.number) c.propose-proposal.ensures.interval ∙ asked.value) c.propose-proposal.ensures.part
-          (c.in-err-next.ensures.answer ∙ ap (λ s. table_fault s (Claim proposal)) c.state-state.ensures));
-      value = IfOk-from_err _ _ c.from-residual-in-err-next.ensures.0;
+          (c.in_err-next.ensures.answer ∙ ap (λ s. table_fault s (Claim proposal)) c.state-state.ensures));
+      value = IfOk-from_err _ _ c.from_residual-in_err-next.ensures.0;
       states = λ n. rw p.1 refl;
       count = refl;
       refused = λ _. refl;
@@ -57,29 +57,29 @@ put-requires c =
     let book = c.args.self.now in
     let sound = ap (is_sound book.made) c.state-state.ensures ∙ book.sound c.args.number in
     record {
-      number = request_number c.args.number c.args.interval c.args.marginal-value c.args.terms.now (sym c.in-ok-week-interval.ensures.answer);
-      sound = ap (is_sound book.made) c.in-ok-next.ensures.value ∙ sound_claim book.made c.state-state.result c.propose-proposal.result sound (sym c.in-ok-next.ensures.answer);
+      number = request_number c.args.number c.args.interval c.args.marginal_value c.args.terms.now (sym c.in_ok-week_interval.ensures.answer);
+      sound = ap (is_sound book.made) c.in_ok-next.ensures.value ∙ sound_claim book.made c.state-state.result c.propose-proposal.result sound (sym c.in_ok-next.ensures.answer);
     }
 
 pub returns : goal.returns
 returns c =
     let states = state_in c.args.self.now.states in
     let state = states c.args.number in
-    let asked = c.in-ok-week-interval.ensures in
+    let asked = c.in_ok-week_interval.ensures in
     let proposal = c.propose-proposal.result in
     let is = c.propose-proposal.ensures in
-    let proposes = subst (λ d. Proposes d c.args.marginal-value c.args.terms.now proposal) (c.regions.ensures ∙ ap declared_in c.state-state.ensures) is.terms in
+    let proposes = subst (λ d. Proposes d c.args.marginal_value c.args.terms.now proposal) (c.regions.ensures ∙ ap declared_in c.state-state.ensures) is.terms in
     let figures = c.of.ensures in
     let claimed : (serial interval : ℕ) → Claimed = λ serial interval. record { number = c.args.number; serial = serial; interval = interval; part = c.args.part } in
-    let none = claim_late c.args.number c.args.interval c.args.marginal-value c.args.terms.now c.args.part state proposal None asked.answer proposes (ap (λ i. i.number) is.interval ∙ asked.value) is.part
-    (c.in-ok-next.ensures.answer ∙ ap (λ s. table_fault s (Claim proposal)) c.state-state.ensures) in
+    let none = claim_late c.args.number c.args.interval c.args.marginal_value c.args.terms.now c.args.part state proposal None asked.answer proposes (ap (λ i. i.number) is.interval ∙ asked.value) is.part
+    (c.in_ok-next.ensures.answer ∙ ap (λ s. table_fault s (Claim proposal)) c.state-state.ensures) in
     let value = ap figures_of figures
-    ∙ ap (λ s. claimed s c.in-ok-week-interval.week-interval.number) (c.serial.ensures ∙ ap serial_in c.state-state.ensures)
+    ∙ ap (λ s. claimed s c.in_ok-week_interval.week_interval.number) (c.serial.ensures ∙ ap serial_in c.state-state.ensures)
     ∙ ap (claimed (serial_in state)) asked.value in
     let after : (n : ℕ) → state_in c.put.new.self.states n ≡ changed c.args.number (claimed_state state (record { interval = c.of.result.figures.interval; part = c.of.result.figures.part })) states n = λ n.
     c.put.ensures.states n
     ∙ ap (λ s. changed c.args.number s states n)
-    (c.in-ok-next.ensures.value
+    (c.in_ok-next.ensures.value
     ∙ claimed_next c.state-state.result state proposal c.of.result.figures c.state-state.ensures (is.interval ∙ sym (ap (λ f. f.interval) figures)) (is.part ∙ sym (ap (λ f. f.part) figures))) in
     let number = ap (λ f. f.number) value in
     let serial = ap (λ f. f.serial) value in
@@ -88,7 +88,7 @@ returns c =
       answer = none;
       value = value;
       states = after;
-      told = λ h owed k. rw c.put.ensures.count (told_claim h _ _ _ c.args.number c.args.interval c.args.marginal-value c.args.terms.now c.args.part (record { interval = c.of.result.figures.interval; part = c.of.result.figures.part }) (figures_of c.of.result.figures) owed (sym none) after same k);
+      told = λ h owed k. rw c.put.ensures.count (told_claim h _ _ _ c.args.number c.args.interval c.args.marginal_value c.args.terms.now c.args.part (record { interval = c.of.result.figures.interval; part = c.of.result.figures.part }) (figures_of c.of.result.figures) owed (sym none) after same k);
       count = c.put.ensures.count;
       refused = λ wrong. absurd (let z : ◌≡◌ {A = ℕ} 0 1 = cc in omega arith);
     }

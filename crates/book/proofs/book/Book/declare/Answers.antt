@@ -13,48 +13,49 @@ use Rattle.book.proofs.Nexts.{declare_next, declare_room, declared_number, decla
 use Rattle.book.proofs.Soundness.{sound_declared, sound_more}
 use Rattle.book.proofs.book.Book.declare.Goals as goal
 
-pub returns-in-err-asked : goal.returns-in-err-asked
-returns-in-err-asked c =
-    let p = err_from_is_err_and c.from-residual.result c.from-residual.ensures.1 in
+pub returns-in_err-asked : goal.returns-in_err-asked
+returns-in_err-asked c =
+    let p = err_from_is_err_and c.from_residual.result c.from_residual.ensures.1 in
     let book = c.args.self.now in
     record {
-      answer = rw (p.1, p.2) (declare_early c.args.number c.args.kind c.args.regions (state_in book.states c.args.number) book.made (told c.in-err-asked.field-0.0) c.in-err-asked.ensures.answer);
-      value = IfOk-from_err _ _ c.from-residual.ensures.0;
+      answer = rw (p.1, p.2) (declare_early c.args.number c.args.kind c.args.regions (state_in book.states c.args.number) book.made (told c.in_err-asked.field-0.0) c.in_err-asked.ensures.answer);
+      value = IfOk-from_err _ _ c.from_residual.ensures.0;
       states = λ n. rw p.1 refl;
       count = rw p.1 refl;
       refused = λ _. refl;
       told = λ h owed k. rw p.1 (kept_refused h _ _ owed k);
     }
 
-pub returns-in-err-next : goal.returns-in-err-next
-returns-in-err-next c =
-    let p = err_from_is_err_and c.from-residual-in-err-next.result c.from-residual-in-err-next.ensures.1 in
+pub returns-in_err-next : goal.returns-in_err-next
+returns-in_err-next c =
+    let p = err_from_is_err_and c.from_residual-in_err-next.result c.from_residual-in_err-next.ensures.1 in
     let book = c.args.self.now in
-    let kind = c.in-ok-asked.asked in
+    let kind = c.in_ok-asked.asked in
     record {
       answer =
           rw (p.1, p.2)
-          (declare_late c.args.number c.args.kind c.args.regions (state_in book.states c.args.number) book.made kind _ c.in-ok-asked.ensures.answer
-          (c.in-err-next.ensures.answer ∙ ap (λ s. table_fault s (Declare kind c.args.regions book.made)) c.state.ensures));
-      value = IfOk-from_err _ _ c.from-residual-in-err-next.ensures.0;
+          (declare_late c.args.number c.args.kind c.args.regions (state_in book.states c.args.number) book.made kind _ c.in_ok-asked.ensures.answer
+          (c.in_err-next.ensures.answer ∙ ap (λ s. table_fault s (Declare kind c.args.regions book.made)) c.state.ensures));
+      value = IfOk-from_err _ _ c.from_residual-in_err-next.ensures.0;
       states = λ n. rw p.1 refl;
       count = rw p.1 refl;
       refused = λ _. refl;
       told = λ h owed k. rw p.1 (kept_refused h _ _ owed k);
     }
 
-pub invariant-of-self : goal.invariant-of-self
-invariant-of-self c =
-    let book = c.args.self.now in (
-      omega (arith, declare_room c.state.result c.in-ok-asked.asked c.args.regions book.made c.in-ok-next.ensures.answer),
-      (λ n. ap (λ m. is_sound m (state_in book.states n)) (add-one book.made) ∙ sound_more book.made (state_in book.states n) (book.sound n), tt),
-    )
+pub invariant_of-self : goal.invariant_of-self
+invariant_of-self c =
+    let book = c.args.self.now in
+    record {
+      few = omega (arith, declare_room c.state.result c.in_ok-asked.asked c.args.regions book.made c.in_ok-next.ensures.answer);
+      sound = λ n. ap (λ m. is_sound m (state_in book.states n)) (add-one book.made) ∙ sound_more book.made (state_in book.states n) (book.sound n);
+    }
 
 pub put-requires : goal.put-requires
 put-requires c =
     let book = c.args.self.now in
-    let asked = c.in-ok-asked.ensures.answer in
-    let next = c.in-ok-next.ensures.value ∙ declare_next c.state.result c.in-ok-asked.asked c.args.kind c.args.regions book.made c.in-ok-next.ensures.answer c.in-ok-asked.ensures.value in
+    let asked = c.in_ok-asked.ensures.answer in
+    let next = c.in_ok-next.ensures.value ∙ declare_next c.state.result c.in_ok-asked.asked c.args.kind c.args.regions book.made c.in_ok-next.ensures.answer c.in_ok-asked.ensures.value in
     record {
       number = declared_number c.args.number c.args.kind c.args.regions asked;
       sound =
@@ -66,10 +67,10 @@ put-requires c =
 pub returns : goal.returns
 returns c =
     let book = c.args.self.now in
-    let kind = c.in-ok-asked.asked in
-    let next = c.in-ok-next.ensures.value ∙ declare_next c.state.result c.in-ok-asked.asked c.args.kind c.args.regions book.made c.in-ok-next.ensures.answer c.in-ok-asked.ensures.value in
-    let none = declare_late c.args.number c.args.kind c.args.regions (state_in book.states c.args.number) book.made kind None c.in-ok-asked.ensures.answer
-    (c.in-ok-next.ensures.answer ∙ ap (λ s. table_fault s (Declare kind c.args.regions book.made)) c.state.ensures) in
+    let kind = c.in_ok-asked.asked in
+    let next = c.in_ok-next.ensures.value ∙ declare_next c.state.result c.in_ok-asked.asked c.args.kind c.args.regions book.made c.in_ok-next.ensures.answer c.in_ok-asked.ensures.value in
+    let none = declare_late c.args.number c.args.kind c.args.regions (state_in book.states c.args.number) book.made kind None c.in_ok-asked.ensures.answer
+    (c.in_ok-next.ensures.answer ∙ ap (λ s. table_fault s (Declare kind c.args.regions book.made)) c.state.ensures) in
     let states : (n : ℕ) → state_in c.put.new.self.states n ≡ changed c.args.number (declared_state c.args.kind c.args.regions (suc book.made)) (state_in book.states) n = λ n. c.put.ensures.states n ∙ ap (λ s. changed c.args.number s (state_in book.states) n) next in
     let count : c.put.new.self.made ≡ suc book.made = omega (arith, c.put.ensures.count) in
     record {

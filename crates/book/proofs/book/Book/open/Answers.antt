@@ -4,8 +4,8 @@ use Rattle.book.proofs.Settling.{kept_opened}
 use Rattle.book.proofs.Slots.{all_free}
 use Rattle.book.proofs.book.Book.open.Goals as goal
 
-pub invariant-of-result : goal.invariant-of-result
-invariant-of-result c = (omega arith, ((λ n. ap (is_sound 0) (all_free (is_number n) n refl)), tt))
+pub invariant_of-result : goal.invariant_of-result
+invariant_of-result c = record { few = omega arith; sound = λ n. ap (is_sound 0) (all_free (is_number n) n refl) }
 
 pub returns : goal.returns
 returns c = record { states = λ n. all_free (is_number n) n refl; count = refl; told = λ owed empty. kept_opened _ 0 owed (λ n. all_free (is_number n) n refl) refl empty }

@@ -17,15 +17,15 @@ use Rattle.book.proofs.Open.{open_number, recovery_early, recovery_late}
 use Rattle.book.proofs.Soundness.{sound_recovered}
 use Rattle.book.proofs.book.Book.recover.Goals as goal
 
-pub returns-in-err-next : goal.returns-in-err-next
-returns-in-err-next g c =
-    let p = err_from_is_err_and c.from-residual.result c.from-residual.ensures.1 in
+pub returns-in_err-next : goal.returns-in_err-next
+returns-in_err-next g c =
+    let p = err_from_is_err_and c.from_residual.result c.from_residual.ensures.1 in
     let state = state_in c.args.self.now.states c.args.claim.number in
     let b = basis_of c.args.claim.part c.args.factors.now (g.E.EnergySource.kwh c.args.source.now) in
     record {
-      answer = rw (p.1, p.2) (recovery_early state c.args.claim b (g.L.Ledger.room c.args.ledger.now) (told c.in-err-next.field-0.0) (c.in-err-next.ensures.answer ∙ ap (λ s. table_fault s (Recover c.args.claim)) c.state-state.ensures));
-      value = IfOk-from_err _ _ c.from-residual.ensures.0;
-      law = IfOk-from_err _ _ c.from-residual.ensures.0;
+      answer = rw (p.1, p.2) (recovery_early state c.args.claim b (g.L.Ledger.room c.args.ledger.now) (told c.in_err-next.field-0.0) (c.in_err-next.ensures.answer ∙ ap (λ s. table_fault s (Recover c.args.claim)) c.state-state.ensures));
+      value = IfOk-from_err _ _ c.from_residual.ensures.0;
+      law = IfOk-from_err _ _ c.from_residual.ensures.0;
       states = λ n. rw p.1 refl;
       count = refl;
       amounts = λ q s. rw p.1 refl;
@@ -35,22 +35,22 @@ returns-in-err-next g c =
       told = λ h k. rw p.1 (kept_refused h _ _ _ k);
     }
 
-pub returns-in-err-outcome : goal.returns-in-err-outcome
-returns-in-err-outcome g c =
-    let p = err_from_is_err_and c.from-residual-in-err-outcome.result c.from-residual-in-err-outcome.ensures.1 in
+pub returns-in_err-outcome : goal.returns-in_err-outcome
+returns-in_err-outcome g c =
+    let p = err_from_is_err_and c.from_residual-in_err-outcome.result c.from_residual-in_err-outcome.ensures.1 in
     let book = c.args.self.now in
     let claim = c.args.claim in
     let state = state_in book.states claim.number in
     let b = basis_of claim.part c.args.factors.now (g.E.EnergySource.kwh c.args.source.now) in
     let left = g.L.Ledger.room c.args.ledger.now in
     let regions = c.regions.ensures ∙ ap declared_in c.state-state.ensures in
-    let held = c.in-ok-next.ensures.answer ∙ ap (λ s. table_fault s (Recover claim)) c.state-state.ensures in
-    let refused = c.in-err-outcome.ensures in
+    let held = c.in_ok-next.ensures.answer ∙ ap (λ s. table_fault s (Recover claim)) c.state-state.ensures in
+    let refused = c.in_err-outcome.ensures in
     let states = state_in book.states in
     record {
       answer = rw (p.1, p.2) (recovery_late book.made state claim b left _ book.few (book.sound claim.number) held refl (refused.answer ∙ ap (λ d. recover_fault d b claim.serial left) regions));
-      value = IfOk-from_err _ _ c.from-residual-in-err-outcome.ensures.0;
-      law = IfOk-from_err _ _ c.from-residual-in-err-outcome.ensures.0;
+      value = IfOk-from_err _ _ c.from_residual-in_err-outcome.ensures.0;
+      law = IfOk-from_err _ _ c.from_residual-in_err-outcome.ensures.0;
       states = λ n. rw p.1 refl;
       count = refl;
       amounts = λ q s. rw p.1 (refused.amounts q s);
@@ -64,10 +64,10 @@ pub put-requires : goal.put-requires
 put-requires g c =
     let book = c.args.self.now in
     let claim = c.args.claim in
-    let held = c.in-ok-next.ensures.answer ∙ ap (λ s. table_fault s (Recover claim)) c.state-state.ensures in
+    let held = c.in_ok-next.ensures.answer ∙ ap (λ s. table_fault s (Recover claim)) c.state-state.ensures in
     record {
       number = open_number book.states claim.number claim (held ∙ recover_table (state_in book.states claim.number) claim);
-      sound = ap (is_sound book.made) c.in-ok-next.ensures.value ∙ sound_recovered book.made c.state-state.result claim (ap (is_sound book.made) c.state-state.ensures ∙ book.sound claim.number);
+      sound = ap (is_sound book.made) c.in_ok-next.ensures.value ∙ sound_recovered book.made c.state-state.result claim (ap (is_sound book.made) c.state-state.ensures ∙ book.sound claim.number);
     }
 
 pub returns : goal.returns
@@ -81,11 +81,11 @@ returns g c =
     let before = g.L.Ledger.room c.args.ledger.now in
     let after = g.L.Ledger.room c.recover.new.ledger in
     let regions = c.regions.ensures ∙ ap declared_in c.state-state.ensures in
-    let held = c.in-ok-next.ensures.answer ∙ ap (λ s. table_fault s (Recover claim)) c.state-state.ensures in
-    let outcome = c.in-ok-outcome.outcome in
-    let done = c.in-ok-outcome.ensures in
+    let held = c.in_ok-next.ensures.answer ∙ ap (λ s. table_fault s (Recover claim)) c.state-state.ensures in
+    let outcome = c.in_ok-outcome.outcome in
+    let done = c.in_ok-outcome.ensures in
     let none = recovery_late book.made state claim b before None book.few (book.sound claim.number) held refl (done.answer ∙ ap (λ d. recover_fault d b claim.serial before) regions) in
-    let after-states : (n : ℕ) → state_in c.put.new.self.states n ≡ changed claim.number (recovered_state state) states n = λ n. c.put.ensures.states n ∙ ap (λ s. changed claim.number s states n) (c.in-ok-next.ensures.value ∙ recover_next c.state-state.result claim ∙ ap recovered_state c.state-state.ensures) in
+    let after-states : (n : ℕ) → state_in c.put.new.self.states n ≡ changed claim.number (recovered_state state) states n = λ n. c.put.ensures.states n ∙ ap (λ s. changed claim.number s states n) (c.in_ok-next.ensures.value ∙ recover_next c.state-state.result claim ∙ ap recovered_state c.state-state.ensures) in
     let amounts : (q s : ℕ) → g.L.Ledger.owed c.recover.new.ledger q s ≡ lowered (share_paid (declared_in state) b) 64 claim.serial owed q s = λ q s. done.amounts q s ∙ ap (λ d. lowered (share_paid d b) 64 claim.serial owed q s) regions in
     let law = subst (λ d. Shared d b (share_paid d b)) regions done.law in
     record {

@@ -12,12 +12,12 @@ use Rattle.book.proofs.Open.{open_number}
 use Rattle.book.proofs.Soundness.{sound_returned}
 use Rattle.book.proofs.book.Book.take_back.Goals as goal
 
-pub returns-in-err-next : goal.returns-in-err-next
-returns-in-err-next c =
-    let p = err_from_is_err_and c.from-residual.result c.from-residual.ensures.1 in
+pub returns-in_err-next : goal.returns-in_err-next
+returns-in_err-next c =
+    let p = err_from_is_err_and c.from_residual.result c.from_residual.ensures.1 in
     let claim = c.args.claim in
     record {
-      answer = rw (p.1, p.2) (c.in-err-next.ensures.answer ∙ ap (λ s. table_fault s (HandBack claim)) c.state.ensures ∙ return_table (state_in c.args.self.now.states claim.number) claim);
+      answer = rw (p.1, p.2) (c.in_err-next.ensures.answer ∙ ap (λ s. table_fault s (HandBack claim)) c.state.ensures ∙ return_table (state_in c.args.self.now.states claim.number) claim);
       states = λ n. rw p.1 refl;
       count = refl;
       refused = λ _. refl;
@@ -30,17 +30,17 @@ put-requires c =
     let claim = c.args.claim in
     let state = state_in book.states claim.number in
     record {
-      number = open_number book.states claim.number claim (c.in-ok-next.ensures.answer ∙ ap (λ s. table_fault s (HandBack claim)) c.state.ensures ∙ return_table state claim);
-      sound = ap (is_sound book.made) c.in-ok-next.ensures.value ∙ sound_returned book.made c.state.result claim (ap (is_sound book.made) c.state.ensures ∙ book.sound claim.number);
+      number = open_number book.states claim.number claim (c.in_ok-next.ensures.answer ∙ ap (λ s. table_fault s (HandBack claim)) c.state.ensures ∙ return_table state claim);
+      sound = ap (is_sound book.made) c.in_ok-next.ensures.value ∙ sound_returned book.made c.state.result claim (ap (is_sound book.made) c.state.ensures ∙ book.sound claim.number);
     }
 
 pub returns : goal.returns
 returns c =
     let claim = c.args.claim in
     let states = state_in c.args.self.now.states in
-    let none = c.in-ok-next.ensures.answer ∙ ap (λ s. table_fault s (HandBack claim)) c.state.ensures ∙ return_table (states claim.number) claim in
+    let none = c.in_ok-next.ensures.answer ∙ ap (λ s. table_fault s (HandBack claim)) c.state.ensures ∙ return_table (states claim.number) claim in
     let number = number_from claim.number (open_number c.args.self.now.states claim.number claim none) in
-    let after : (n : ℕ) → state_in c.put.new.self.states n ≡ changed claim.number (returned_state (states claim.number)) states n = λ n. c.put.ensures.states n ∙ ap (λ s. changed claim.number s states n) (c.in-ok-next.ensures.value ∙ return_next c.state.result claim ∙ ap returned_state c.state.ensures) in
+    let after : (n : ℕ) → state_in c.put.new.self.states n ≡ changed claim.number (returned_state (states claim.number)) states n = λ n. c.put.ensures.states n ∙ ap (λ s. changed claim.number s states n) (c.in_ok-next.ensures.value ∙ return_next c.state.result claim ∙ ap returned_state c.state.ensures) in
     record {
       answer = none;
       states = after;

@@ -1,4 +1,4 @@
-use Rattle.std.proofs.Common.{◌≡◌, suc, ◌+◌, ◌≤◌, ◌+ℤ◌, nat_abs, sym, ap, ◌∙◌, arith}
+use Rattle.std.proofs.Common.{◌≡◌, suc, ◌+◌, ◌+ℤ◌, sym, ap, ◌∙◌, arith}
 use Rattle.foundation.specs.Sums.{sum_to_int}
 use Rattle.foundation.proofs.Signed.{running_fits, running_is}
 use Rattle.foundation.proofs.Sums.{sum_to_int_more, sum_to_int_none}
@@ -10,8 +10,8 @@ use Rattle.book.proofs.book.Book.total.Goals as goal
 pub loop-party-init : goal.loop-party-init
 loop-party-init g c = sym (sum_to_int_none (λ p. seen (g.L.Ledger.owed c.args.ledger.now) p c.args.serial))
 
-pub overflow-add-sum : goal.overflow-add-sum
-overflow-add-sum g c =
+pub overflow_add-sum : goal.overflow_add-sum
+overflow_add-sum g c =
     let f = g.L.Ledger.owed c.args.ledger.now in
     let s = c.args.serial in
     let most = (g.L.Ledger.bounded c.args.ledger.now).all in

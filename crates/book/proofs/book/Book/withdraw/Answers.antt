@@ -13,24 +13,24 @@ use Rattle.book.proofs.Nexts.{withdraw_next}
 use Rattle.book.proofs.Terms.{number_is}
 use Rattle.book.proofs.book.Book.withdraw.Goals as goal
 
-pub returns-in-err-check-number : goal.returns-in-err-check-number
-returns-in-err-check-number c =
-    let p = err_from_is_err_and c.from-residual.result c.from-residual.ensures.1 in
+pub returns-in_err-check_number : goal.returns-in_err-check_number
+returns-in_err-check_number c =
+    let p = err_from_is_err_and c.from_residual.result c.from_residual.ensures.1 in
     let state = state_in c.args.self.now.states c.args.number in
     record {
-      answer = rw (p.1, p.2) (withdraw_early c.args.number state (told c.in-err-check-number.field-0.0) c.in-err-check-number.ensures);
+      answer = rw (p.1, p.2) (withdraw_early c.args.number state (told c.in_err-check_number.field-0.0) c.in_err-check_number.ensures);
       states = λ n. rw p.1 refl;
       count = refl;
       refused = λ _. refl;
       told = λ h owed k. rw p.1 (kept_refused h _ _ owed k);
     }
 
-pub returns-in-err-next : goal.returns-in-err-next
-returns-in-err-next c =
-    let p = err_from_is_err_and c.from-residual-in-err-next.result c.from-residual-in-err-next.ensures.1 in
+pub returns-in_err-next : goal.returns-in_err-next
+returns-in_err-next c =
+    let p = err_from_is_err_and c.from_residual-in_err-next.result c.from_residual-in_err-next.ensures.1 in
     let state = state_in c.args.self.now.states c.args.number in
     record {
-      answer = rw (p.1, p.2) (withdraw_late c.args.number state _ c.in-ok-check-number.ensures (c.in-err-next.ensures.answer ∙ ap (λ s. table_fault s Withdraw) c.state.ensures));
+      answer = rw (p.1, p.2) (withdraw_late c.args.number state _ c.in_ok-check_number.ensures (c.in_err-next.ensures.answer ∙ ap (λ s. table_fault s Withdraw) c.state.ensures));
       states = λ n. rw p.1 refl;
       count = refl;
       refused = λ _. refl;
@@ -39,17 +39,17 @@ returns-in-err-next c =
 
 pub put-requires : goal.put-requires
 put-requires c =
-    let next = c.in-ok-next.ensures.value ∙ withdraw_next c.state.result c.in-ok-next.ensures.answer in
+    let next = c.in_ok-next.ensures.value ∙ withdraw_next c.state.result c.in_ok-next.ensures.answer in
     record {
-      number = number_is c.args.number (sym c.in-ok-check-number.ensures);
+      number = number_is c.args.number (sym c.in_ok-check_number.ensures);
       sound = ap (is_sound c.args.self.now.made) next;
     }
 
 pub returns : goal.returns
 returns c =
     let states = state_in c.args.self.now.states in
-    let next = c.in-ok-next.ensures.value ∙ withdraw_next c.state.result c.in-ok-next.ensures.answer in
-    let none = withdraw_late c.args.number (states c.args.number) None c.in-ok-check-number.ensures (c.in-ok-next.ensures.answer ∙ ap (λ s. table_fault s Withdraw) c.state.ensures) in
+    let next = c.in_ok-next.ensures.value ∙ withdraw_next c.state.result c.in_ok-next.ensures.answer in
+    let none = withdraw_late c.args.number (states c.args.number) None c.in_ok-check_number.ensures (c.in_ok-next.ensures.answer ∙ ap (λ s. table_fault s Withdraw) c.state.ensures) in
     let after : (n : ℕ) → state_in c.put.new.self.states n ≡ changed c.args.number Free states n = λ n. c.put.ensures.states n ∙ ap (λ s. changed c.args.number s states n) next in
     record {
       answer = none;

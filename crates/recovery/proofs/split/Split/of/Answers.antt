@@ -1,4 +1,4 @@
-use Rattle.std.proofs.Common.{◌≡◌, ℕ, ◌+◌, ◌<◌, sym, ap, ◌∙◌, arith, rules}
+use Rattle.std.proofs.Common.{◌+◌, ◌<◌, sym, ap, ◌∙◌, arith}
 use Rattle.foundation.specs.Sums.{listed}
 use Rattle.foundation.proofs.Sums.{sum_to_eq}
 use Rattle.recovery.specs.Shares.{basis_of, cmpf, crmpf, customer, weight}

@@ -1,4 +1,4 @@
-use Rattle.std.proofs.Common.{◌≡◌, ◌<◌, ◌≤◌, length, arith, rules}
+use Rattle.std.proofs.Common.{◌≡◌, length, arith, rules}
 use Rattle.foundation.specs.Sums.{listed}
 use Rattle.foundation.proofs.Shares.{share_le}
 use Rattle.recovery.proofs.split.Split.over.Goals as goal
