@@ -1,5 +1,4 @@
-use Rattle.std.proofs.Common.{◌≡◌, suc, ◌+◌, sym, ap, ◌∙◌, add-one, arith}
-use Rattle.foundation.specs.Sums.{sum_to}
+use Rattle.std.proofs.Common.{◌≡◌, suc, sym, ◌∙◌, add-one, arith}
 use Rattle.foundation.proofs.Sums.{sum_to_none, sum_to_more, sum_to_mono}
 use Rattle.recovery.specs.Split.{share_in, energy_of}
 use Rattle.settle.proofs.Fractions.{energies_most, shares_whole}

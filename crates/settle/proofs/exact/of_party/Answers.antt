@@ -1,4 +1,4 @@
-use Rattle.std.proofs.Common.{◌≡◌, ℕ, ◌+◌, true, false, sym, ap, ◌∙◌, arith}
+use Rattle.std.proofs.Common.{◌≡◌, ◌+◌, false, sym, arith}
 use Rattle.sampling.specs.Factors.{is_factored}
 use Rattle.recovery.specs.Shares.{basis_of}
 use Rattle.settle.proofs.Fractions.{weights_some, weights_most, energy_most, customers_some, customers_most, of_causer, of_customer}

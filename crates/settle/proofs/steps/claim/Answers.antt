@@ -1,4 +1,4 @@
-use Rattle.std.proofs.Common.{◌≡◌, ℕ, ◌<◌, length, take, refl, arith, length-take, rules}
+use Rattle.std.proofs.Common.{ℕ, ◌<◌, length, take, refl, arith, length-take, rules}
 use Rattle.std.proofs.lemmas.Result.{err_from_is_err_and}
 use Rattle.settle.specs.Terms.{Heading}
 use Rattle.settle.specs.Sheet.{texts}
