@@ -1,5 +1,5 @@
 -- Which lines choose the ledger.
-use Rattle.std.proofs.Common.{◌≡◌, ℕ, zero, suc, ◌+◌, ◌<◌, ◌≤◌, true, false, List, [], ◌∷◌, length, get_or, arith, rules}
+use Rattle.std.proofs.Common.{◌≡◌, ℕ, zero, suc, ◌<◌, true, false, List, [], ◌∷◌, length, get_or, arith, rules}
 use Rattle.settle.specs.declared.sheet.Line.{Line}
 use Rattle.settle.specs.Choice.{ChoosesAt, chooses_ledger}
 

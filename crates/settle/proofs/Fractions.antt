@@ -1,10 +1,9 @@
 -- How large the figures of a split are, and what its exact shares are.
-use Rattle.std.proofs.Common.{◌≡◌, ℕ, ◌+◌, ◌*◌, ◌^◌, ◌<◌, ◌≤◌, true, false, cond, ltb, sym, refl, ap, ◌∙◌, mul-le-mul_right, mul-le-mul_left, arith, lt-ltb}
+use Rattle.std.proofs.Common.{◌≡◌, ℕ, ◌+◌, ◌*◌, ◌<◌, ◌≤◌, true, false, cond, ltb, sym, ap, ◌∙◌, mul-le-mul_right, mul-le-mul_left, arith, lt-ltb}
 use Rattle.foundation.specs.Sums.{sum_to, listed}
 use Rattle.foundation.proofs.Sums.{sum_to_eq, sum_to_one_le}
 use Rattle.sampling.specs.declared.factors.Factors.{Factors}
-use Rattle.sampling.specs.Factors.{factor_of, is_factored}
-use Rattle.energy.specs.Energy.{grand}
+use Rattle.sampling.specs.Factors.{is_factored}
 use Rattle.recovery.specs.declared.split.Split.{Split}
 use Rattle.recovery.specs.Shares.{Basis, basis_of, held_in, energy_in, atce, cmpf, crmpf, exact_top, exact_bottom}
 use Rattle.recovery.specs.Split.{Parted, share_in, energy_of}

@@ -1,5 +1,5 @@
 -- Terms that words write.
-use Rattle.std.proofs.Common.{◌≡◌, ℕ, zero, suc, ◌+◌, ◌-◌, ◌*◌, ◌<◌, ◌≤◌, min, List, [], ◌∷◌, ◌++◌, length, get_or, take, drop, set, replicate, Some, None, Err, sym, refl, ap, ◌∙◌, subst, add-one, arith, length-drop, Bor}
+use Rattle.std.proofs.Common.{◌≡◌, ℕ, zero, suc, ◌+◌, ◌-◌, ◌*◌, ◌<◌, ◌≤◌, min, List, [], ◌∷◌, ◌++◌, length, get_or, take, drop, set, replicate, Some, None, Err, sym, refl, ap, ◌∙◌, add-one, arith, length-drop, Bor}
 use Rattle.std.proofs.lemmas.List.{append-nil, append_assoc, drop_all, drop-drop, drop-map, take_all, take-map}
 use Rattle.book.specs.declared.term.Term.{Term}
 use Rattle.settle.specs.declared.sheet.NoStep.{NoStep}

@@ -1,5 +1,5 @@
 -- Words of a run sheet.
-use Rattle.std.proofs.Common.{◌≡◌, ℕ, ◌-◌, ◌<◌, List, [], ◌∷◌, ◌++◌, length, get_or, take, drop, Some, None, Ok, Err, codes, Option, Result, sym, refl, ap, ◌∙◌, arith, Bor, rules}
+use Rattle.std.proofs.Common.{◌≡◌, ℕ, ◌-◌, ◌<◌, List, [], ◌∷◌, ◌++◌, length, get_or, take, drop, Some, None, Err, codes, Option, Result, sym, refl, ap, ◌∙◌, arith, Bor, rules}
 use Rattle.std.proofs.lemmas.List.{take_all, take-map, map-append, length-map}
 use Rattle.settle.specs.declared.sheet.NoStep.{NoStep}
 use Rattle.settle.specs.declared.sheet.NoStep.TheVariants.{Unknown, NoMemory}

@@ -1,4 +1,6 @@
 // `settle SHEET`: carries out the steps of a run sheet, and prints what came of them.
+#![tactic(auto)]
+
 mod accounts;
 mod counted;
 mod declarations;
@@ -16,6 +18,7 @@ mod terms;
 
 use failure::Failure;
 use std::env;
+use std::process::ExitCode;
 
 const USAGE: &str = "usage: settle SHEET
 
@@ -59,7 +62,7 @@ fn start(rt: &HostRuntime) -> Result<(), Failure> {
     if args.next().is_some() {
         return Err(Failure::Usage);
     }
-    if sheet == "--help" {
+    if sheet.as_str() == "--help" {
         rt.print(USAGE)?;
         return Ok(());
     }
@@ -73,10 +76,12 @@ fn complain(rt: &HostRuntime, failure: &Failure) {
     };
 }
 
-fn main(rt: HostRuntime) -> Result<(), Failure> {
-    let done = start(&rt);
-    if let Err(failure) = &done {
-        complain(&rt, failure);
+fn main(rt: HostRuntime) -> ExitCode {
+    match start(&rt) {
+        Ok(()) => ExitCode::SUCCESS,
+        Err(failure) => {
+            complain(&rt, &failure);
+            ExitCode::FAILURE
+        }
     }
-    done
 }

@@ -50,18 +50,18 @@ fn interval_bytes(units: usize) -> usize
 }
 
 impl Run {
-    fn new(rt: &HostRuntime, folder: PathBuf) -> Run {
+    fn new(rt: &HostRuntime, folder: PathBuf) -> Result<Run, Failure> {
         let heap = rt.alloc();
-        Run {
+        Ok(Run {
             folder,
-            out: BufWriter::new(rt.stdout()),
+            out: BufWriter::new(heap, rt.stdout())?,
             sampling: Sampling::open(heap),
             published: None,
             energies: Figures::none(),
             tally: Tally::new(heap),
             book: Book::open(),
             accounts: Accounts::new(),
-        }
+        })
     }
 
     fn open(&self, rt: &HostRuntime, name: &str) -> io::Result<File> {
@@ -278,7 +278,7 @@ pub(crate) fn carry_out(rt: &HostRuntime, sheet: &str) -> Result<(), Failure> {
     let lines = sheet::lines(heap, text.as_str())?;
     let chosen = chosen(lines.as_slice())?;
     let folder = Path::new(sheet).parent().unwrap_or(Path::new(""));
-    let mut run = Run::new(rt, folder.to_path_buf(heap)?);
+    let mut run = Run::new(rt, folder.to_path_buf(heap)?)?;
     match chosen {
         Some(
             Line {

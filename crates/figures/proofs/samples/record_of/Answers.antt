@@ -24,8 +24,8 @@ returns c =
       last = fields 5 (omega arith) ∙ none 5 (λ l. omega arith) (λ e. omega arith);
       value = λ k l.
           values_shown b c.args.values two f g
-          (number_same b c.put-3.new.bytes 6 6 (c.put-4.ensures.rest 6 (λ e. omega arith) (λ e. omega arith)) (c.put-4.ensures.rest 7 (λ e. omega arith) (λ e. omega arith)) ∙ c.put-3.ensures.number ∙ c.cast-unsigned.ensures ∙ ap (of_z w16) (to_z-of_z w16 _ f))
-          (c.put-4.ensures.number ∙ c.cast-unsigned-2.ensures ∙ ap (of_z w16) (to_z-of_z w16 _ g))
+          (number_same b c.put-3.new.bytes 6 6 (c.put-4.ensures.rest 6 (λ e. omega arith) (λ e. omega arith)) (c.put-4.ensures.rest 7 (λ e. omega arith) (λ e. omega arith)) ∙ c.put-3.ensures.number ∙ c.cast_unsigned.ensures ∙ ap (of_z w16) (to_z-of_z w16 _ f))
+          (c.put-4.ensures.number ∙ c.cast_unsigned-2.ensures ∙ ap (of_z w16) (to_z-of_z w16 _ g))
           (λ i m. c.put-4.ensures.rest i (λ e. omega arith) (λ e. omega arith) ∙ c.put-3.ensures.rest i (λ e. omega arith) (λ e. omega arith) ∙ none i (λ e. omega arith) (λ e. omega arith))
           k;
     }

@@ -1,18 +1,17 @@
-use Rattle.std.proofs.Common.{◌≡◌, suc, ◌+◌, sym, ap, ◌∙◌, add-one, arith}
-use Rattle.foundation.specs.Sums.{sum_to}
+use Rattle.std.proofs.Common.{◌≡◌, suc, sym, ◌∙◌, add-one, arith}
 use Rattle.foundation.proofs.Sums.{sum_to_none, sum_to_more, sum_to_mono}
 use Rattle.recovery.specs.Split.{share_in, energy_of}
 use Rattle.settle.proofs.Fractions.{energies_most, shares_whole}
 use Rattle.settle.proofs.exact.all_parties.Goals as goal
 
-pub overflow-add-energy : goal.overflow-add-energy
-overflow-add-energy c =
+pub overflow_add-energy : goal.overflow_add-energy
+overflow_add-energy c =
     let f = energy_of c.args.split.now in
     let k = c.loop-party.party in
     omega (arith, c.loop-party.invariant.0, c.energy-energy.ensures, sum_to_more k f, sum_to_mono (suc k) 64 f (omega arith), energies_most _ _ _ c.requires.split)
 
-pub overflow-add-share : goal.overflow-add-share
-overflow-add-share c =
+pub overflow_add-share : goal.overflow_add-share
+overflow_add-share c =
     let f = share_in c.args.split.now in
     let k = c.loop-party.party in
     omega (arith, c.loop-party.invariant.1, c.share-share.ensures, sum_to_more k f, sum_to_mono (suc k) 64 f (omega arith), shares_whole _ _ _ c.requires.split, c.requires.split.small)

@@ -1,4 +1,4 @@
-use Rattle.std.proofs.Common.{◌≡◌, ℕ, ◌≤◌, List, length, get_or, set, ap, ◌∙◌, arith}
+use Rattle.std.proofs.Common.{◌≡◌, ℕ, List, length, get_or, set, ap, ◌∙◌, arith}
 use Rattle.settle.proofs.Written.{pad_next, pad_all}
 use Rattle.settle.proofs.numbers.by_party.Goals as goal
 

@@ -3,24 +3,24 @@ use Rattle.settle.specs.Numbers.{Numbers}
 use Rattle.settle.specs.Sheet.{texts}
 use Rattle.settle.proofs.Written.{within, as_long, placed_numbers}
 use Rattle.settle.proofs.numbers.byte.Goals as goal
-use Rattle.settle.proofs.numbers.byte.Goals.{in-default, in-default·2}
+use Rattle.settle.proofs.numbers.byte.Goals.{in_default, in_default-2}
 
-pub overflow-cast-result : goal.overflow-cast-result
-overflow-cast-result c =
-    let ns = c.as-slice.result.now in
-    let written : Numbers 255 (texts c.args.words.now) ns = rw c.as-slice.ensures.value c.in-ok-numbers.ensures in
+pub overflow_cast-result : goal.overflow_cast-result
+overflow_cast-result c =
+    let ns = c.as_slice.result.now in
+    let written : Numbers 255 (texts c.args.words.now) ns = rw c.as_slice.ensures.value c.in_ok-numbers.ensures in
     let small : get_or ns 0 0 ≤ 255 = within 255 (texts c.args.words.now) ns written 0 (search rules) in
     search rules
 
 pub returns-in-len1 : goal.returns-in-len1
 returns-in-len1 c =
-    let ns = c.as-slice.result.now in
-    let written : Numbers 255 (texts c.args.words.now) ns = rw c.as-slice.ensures.value c.in-ok-numbers.ensures in
+    let ns = c.as_slice.result.now in
+    let written : Numbers 255 (texts c.args.words.now) ns = rw c.as_slice.ensures.value c.in_ok-numbers.ensures in
     let all : length ns ≡ 1 = search rules in
     placed_numbers 255 (texts c.args.words.now) 1 ns all written
 
 pub returns : goal.returns
 returns c =
-    let ns = c.as-slice.result.now in
-    let written : Numbers 255 (texts c.args.words.now) ns = rw c.as-slice.ensures.value c.in-ok-numbers.ensures in
-    elim c.if-as-slice-lt1.branch [ in-default w ↦ rw w.result-is (λ n h. let same = as_long 255 (texts c.args.words.now) ns (n ∷ []) written h in search rules) | in-default·2 w ↦ rw w.result-is (λ n h. let same = as_long 255 (texts c.args.words.now) ns (n ∷ []) written h in search rules) ]
+    let ns = c.as_slice.result.now in
+    let written : Numbers 255 (texts c.args.words.now) ns = rw c.as_slice.ensures.value c.in_ok-numbers.ensures in
+    elim c.if-as_slice-lt1.branch [ in_default w ↦ rw w.result-is (λ n h. let same = as_long 255 (texts c.args.words.now) ns (n ∷ []) written h in search rules) | in_default-2 w ↦ rw w.result-is (λ n h. let same = as_long 255 (texts c.args.words.now) ns (n ∷ []) written h in search rules) ]

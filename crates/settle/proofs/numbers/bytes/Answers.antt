@@ -5,7 +5,7 @@ use Rattle.settle.proofs.numbers.bytes.Goals as goal
 pub loop-number-preserved : goal.loop-number-preserved
 loop-number-preserved c =
     let here = get_or c.args.numbers.now c.loop-number.number-index 0 in
-    c.in-ok-push.ensures.items ∙ ap (λ (front : List ℕ). front ++ (here ∷ [])) c.loop-number.invariant ∙ sym (take_more c.args.numbers.now c.loop-number.number-index 0 c.loop-number-test.true)
+    c.in_ok-push.ensures.items ∙ ap (λ (front : List ℕ). front ++ (here ∷ [])) c.loop-number.invariant ∙ sym (take_more c.args.numbers.now c.loop-number.number-index 0 c.loop-number-test.true)
 
 pub returns : goal.returns
 returns c =

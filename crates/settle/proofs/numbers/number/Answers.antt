@@ -8,18 +8,18 @@ no_plus word r starts left = search rules
 
 pub returns-in-Ok : goal.returns-in-Ok
 returns-in-Ok c =
-    let starts = starts_char 43 c.args.word.now c.starts-with.result c.starts-with.ensures.cases (lit< tt) (lit< tt) in
-    let plain = no_plus c.args.word.now c.starts-with.result starts c.if-starts-with.false in
+    let starts = starts_char 43 c.args.word.now c.starts_with.result c.starts_with.ensures.cases (lit< tt) (lit< tt) in
+    let plain = no_plus c.args.word.now c.starts_with.result starts c.if-starts_with.false in
     read_some c.args.most c.args.word.now plain c.in-Ok.number c.in-Ok.ensures.value.0 c.if-number-most.true
 
-pub returns-in-default : goal.returns-in-default
-returns-in-default c =
-    let starts = starts_char 43 c.args.word.now c.starts-with.result c.starts-with.ensures.cases (lit< tt) (lit< tt) in
-    let plain = no_plus c.args.word.now c.starts-with.result starts c.if-starts-with.false in
+pub returns-in_default : goal.returns-in_default
+returns-in_default c =
+    let starts = starts_char 43 c.args.word.now c.starts_with.result c.starts_with.ensures.cases (lit< tt) (lit< tt) in
+    let plain = no_plus c.args.word.now c.starts_with.result starts c.if-starts_with.false in
     read_over c.args.most c.args.word.now plain c.in-Ok.number c.in-Ok.ensures.value.0 c.if-number-most.false
 
-pub returns-in-default·2 : goal.returns-in-default·2
-returns-in-default·2 c =
-    let starts = starts_char 43 c.args.word.now c.starts-with.result c.starts-with.ensures.cases (lit< tt) (lit< tt) in
-    let plain = no_plus c.args.word.now c.starts-with.result starts c.if-starts-with.false in
-    read_none c.args.most c.args.word.now plain c.in-default.ensures.value.0 (omega arith)
+pub returns-in_default-2 : goal.returns-in_default-2
+returns-in_default-2 c =
+    let starts = starts_char 43 c.args.word.now c.starts_with.result c.starts_with.ensures.cases (lit< tt) (lit< tt) in
+    let plain = no_plus c.args.word.now c.starts_with.result starts c.if-starts_with.false in
+    read_none c.args.most c.args.word.now plain c.in_default.ensures.value.0 (omega arith)

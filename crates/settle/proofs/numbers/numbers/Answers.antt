@@ -5,7 +5,7 @@ use Rattle.settle.proofs.numbers.numbers.Goals as goal
 
 pub loop-word-preserved : goal.loop-word-preserved
 loop-word-preserved c =
-    rw c.in-ok-push.ensures.items
+    rw c.in_ok-push-in-Some.ensures.items
     (numbers_more c.args.most c.args.words.now c.loop-word.word-index _ (vec_items c.loop-word.numbers) c.in-Some.number c.loop-word-test.true c.loop-word.invariant c.in-Some.ensures)
 
 pub returns : goal.returns

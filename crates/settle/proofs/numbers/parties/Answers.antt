@@ -3,31 +3,31 @@ use Rattle.settle.specs.Numbers.{Numbers}
 use Rattle.settle.specs.Sheet.{texts}
 use Rattle.settle.proofs.Written.{within, as_long, placed_numbers}
 use Rattle.settle.proofs.numbers.parties.Goals as goal
-use Rattle.settle.proofs.numbers.parties.Goals.{in-default, in-default·2}
+use Rattle.settle.proofs.numbers.parties.Goals.{in_default, in_default-2}
 
-pub overflow-cast-result : goal.overflow-cast-result
-overflow-cast-result c =
-    let ns = c.as-slice.result.now in
-    let written : Numbers 65535 (texts c.args.words.now) ns = rw c.as-slice.ensures.value c.in-ok-numbers.ensures in
+pub overflow_cast-result : goal.overflow_cast-result
+overflow_cast-result c =
+    let ns = c.as_slice.result.now in
+    let written : Numbers 65535 (texts c.args.words.now) ns = rw c.as_slice.ensures.value c.in_ok-numbers.ensures in
     let small : get_or ns 0 0 ≤ 65535 = within 65535 (texts c.args.words.now) ns written 0 (search rules) in
     search rules
 
-pub overflow-cast-result-in-len2 : goal.overflow-cast-result-in-len2
-overflow-cast-result-in-len2 c =
-    let ns = c.as-slice.result.now in
-    let written : Numbers 65535 (texts c.args.words.now) ns = rw c.as-slice.ensures.value c.in-ok-numbers.ensures in
+pub overflow_cast-result-in-len2 : goal.overflow_cast-result-in-len2
+overflow_cast-result-in-len2 c =
+    let ns = c.as_slice.result.now in
+    let written : Numbers 65535 (texts c.args.words.now) ns = rw c.as_slice.ensures.value c.in_ok-numbers.ensures in
     let small : get_or ns 1 0 ≤ 65535 = within 65535 (texts c.args.words.now) ns written 1 (search rules) in
     search rules
 
 pub returns-in-len2 : goal.returns-in-len2
 returns-in-len2 c =
-    let ns = c.as-slice.result.now in
-    let written : Numbers 65535 (texts c.args.words.now) ns = rw c.as-slice.ensures.value c.in-ok-numbers.ensures in
+    let ns = c.as_slice.result.now in
+    let written : Numbers 65535 (texts c.args.words.now) ns = rw c.as_slice.ensures.value c.in_ok-numbers.ensures in
     let all : length ns ≡ 2 = search rules in
     placed_numbers 65535 (texts c.args.words.now) 2 ns all written
 
 pub returns : goal.returns
 returns c =
-    let ns = c.as-slice.result.now in
-    let written : Numbers 65535 (texts c.args.words.now) ns = rw c.as-slice.ensures.value c.in-ok-numbers.ensures in
-    elim c.if-as-slice-lt2.branch [ in-default w ↦ rw w.result-is (λ p h. let same = as_long 65535 (texts c.args.words.now) ns (p.0 ∷ p.1 ∷ []) written h in search rules) | in-default·2 w ↦ rw w.result-is (λ p h. let same = as_long 65535 (texts c.args.words.now) ns (p.0 ∷ p.1 ∷ []) written h in search rules) ]
+    let ns = c.as_slice.result.now in
+    let written : Numbers 65535 (texts c.args.words.now) ns = rw c.as_slice.ensures.value c.in_ok-numbers.ensures in
+    elim c.if-as_slice-lt2.branch [ in_default w ↦ rw w.result-is (λ p h. let same = as_long 65535 (texts c.args.words.now) ns (p.0 ∷ p.1 ∷ []) written h in search rules) | in_default-2 w ↦ rw w.result-is (λ p h. let same = as_long 65535 (texts c.args.words.now) ns (p.0 ∷ p.1 ∷ []) written h in search rules) ]

@@ -14,14 +14,14 @@ returns-in-None c n h =
     let one : length c.args.words.now ≡ 1 = search rules in
     no_numbers c.args.most c.args.words.now 0 nowhere (n ∷ []) (omega arith) c.in-None.ensures h
 
-pub returns-in-default : goal.returns-in-default
-returns-in-default c n h =
+pub returns-in_default : goal.returns-in_default
+returns-in_default c n h =
     let one = as_many c.args.most (texts c.args.words.now) (n ∷ []) h in
     let same = length_texts c.args.words.now _ refl in
     search rules
 
-pub returns-in-default·2 : goal.returns-in-default·2
-returns-in-default·2 c n h =
+pub returns-in_default-2 : goal.returns-in_default-2
+returns-in_default-2 c n h =
     let one = as_many c.args.most (texts c.args.words.now) (n ∷ []) h in
     let same = length_texts c.args.words.now _ refl in
     search rules

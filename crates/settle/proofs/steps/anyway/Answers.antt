@@ -12,18 +12,18 @@ returns-in-anyway c =
     let one : length c.args.words.now ≡ 1 = search rules in
     one_text c.args.words.now _ one ∙ ap (λ (word : List ℕ). word ∷ []) c.in-anyway.is-anyway
 
-pub returns-in-default : goal.returns-in-default
-returns-in-default c true e =
+pub returns-in_default : goal.returns-in_default
+returns-in_default c true e =
     let first = first_text c.args.words.now nowhere _ _ e in
     search rules
-returns-in-default c false e =
+returns-in_default c false e =
     let none = length_texts c.args.words.now _ e in
     search rules
 
-pub returns-in-default·2 : goal.returns-in-default·2
-returns-in-default·2 c true e =
+pub returns-in_default-2 : goal.returns-in_default-2
+returns-in_default-2 c true e =
     let one = length_texts c.args.words.now _ e in
     search rules
-returns-in-default·2 c false e =
+returns-in_default-2 c false e =
     let none = length_texts c.args.words.now _ e in
     search rules

@@ -6,7 +6,7 @@ pub returns-in-units : goal.returns-in-units
 returns-in-units c = asked_by c.args.keyword.now _ (texts c.args.words.now) c.units.result c.in-units.is c.units.ensures
 
 pub returns-in-text : goal.returns-in-text
-returns-in-text c = asked_by c.args.keyword.now _ (texts c.args.words.now) c.units-file.result c.in-text.is c.units-file.ensures
+returns-in-text c = asked_by c.args.keyword.now _ (texts c.args.words.now) c.units_file.result c.in-text.is c.units_file.ensures
 
 pub returns-in-samples : goal.returns-in-samples
 returns-in-samples c = asked_by c.args.keyword.now _ (texts c.args.words.now) c.samples.result c.in-samples.is c.samples.ensures
@@ -60,4 +60,4 @@ pub returns-in-recover : goal.returns-in-recover
 returns-in-recover c = asked_by c.args.keyword.now _ (texts c.args.words.now) c.recover.result c.in-recover.is c.recover.ensures
 
 pub returns-in-return : goal.returns-in-return
-returns-in-return c = asked_by c.args.keyword.now _ (texts c.args.words.now) c.hand-back.result c.in-return.is c.hand-back.ensures
+returns-in-return c = asked_by c.args.keyword.now _ (texts c.args.words.now) c.hand_back.result c.in-return.is c.hand_back.ensures

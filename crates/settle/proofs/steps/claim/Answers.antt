@@ -1,4 +1,4 @@
-use Rattle.std.proofs.Common.{◌≡◌, ℕ, ◌<◌, length, take, refl, arith, length-take, rules}
+use Rattle.std.proofs.Common.{ℕ, ◌<◌, length, take, refl, arith, length-take, rules}
 use Rattle.std.proofs.lemmas.Result.{err_from_is_err_and}
 use Rattle.settle.specs.Terms.{Heading}
 use Rattle.settle.specs.Sheet.{texts}
@@ -13,7 +13,7 @@ returns-then-words-lt-HEADING c step asks =
     let none : (n i v p : ℕ) → Heading (take 4 words) n i v p → ⊥ = λ n i v p h. omega (arith, few, heading_long (take 4 words) n i v p h, length-take 4 words) in
     search rules
 
-pub returns-in-err-number : goal.returns-in-err-number
-returns-in-err-number c =
-    let why = err_from_is_err_and c.from-residual.result c.from-residual.ensures.1 in
-    rw (why.1, why.2) (refused_heading c.args.words.now _ c.split-at.ensures.front c.in-err-number.field-0.0 c.in-err-number.ensures)
+pub returns-in_err-number : goal.returns-in_err-number
+returns-in_err-number c =
+    let why = err_from_is_err_and c.from_residual.result c.from_residual.ensures.1 in
+    rw (why.1, why.2) (refused_heading c.args.words.now _ c.split_at.ensures.front c.in_err-number.field-0.0 c.in_err-number.ensures)

@@ -1,4 +1,4 @@
-use Rattle.std.proofs.Common.{◌≡◌, ◌+◌, ◌-◌, ◌*◌, ◌<◌, ◌≤◌, length, take, drop, vec_items, refl, arith, rules}
+use Rattle.std.proofs.Common.{◌+◌, ◌-◌, ◌*◌, ◌<◌, ◌≤◌, length, take, drop, vec_items, refl, arith, rules}
 use Rattle.std.proofs.lemmas.Result.{err_from_is_err_and}
 use Rattle.settle.specs.Sheet.{texts}
 use Rattle.settle.proofs.Termed.{termed_length, begun_all, three_texts, refused_term, read_term}
@@ -11,15 +11,15 @@ returns-then-words-ne0 c ts h =
     let same = length_texts c.args.words.now _ refl in
     search rules
 
-pub returns-in-err-term : goal.returns-in-err-term
-returns-in-err-term c =
+pub returns-in_err-term : goal.returns-in_err-term
+returns-in_err-term c =
     let words = c.args.words.now in
     let k = c.loop-k.k in
     let three = take ((3 * k + 3) - 3 * k) (drop (3 * k) words) in
     let long = length_texts words (texts words) refl in
     let inside : 3 * k < length (texts words) = search rules in
-    let why = err_from_is_err_and c.from-residual.result c.from-residual.ensures.1 in
-    rw (why.1, why.2) (refused_term words three (3 * k) (three_texts words three (3 * k) ((3 * k + 3) - 3 * k) (omega arith) refl) inside (vec_items c.loop-k.terms) c.loop-k.invariant c.in-err-term.field-0.0 c.in-err-term.ensures)
+    let why = err_from_is_err_and c.from_residual.result c.from_residual.ensures.1 in
+    rw (why.1, why.2) (refused_term words three (3 * k) (three_texts words three (3 * k) ((3 * k + 3) - 3 * k) (omega arith) refl) inside (vec_items c.loop-k.terms) c.loop-k.invariant c.in_err-term.field-0.0 c.in_err-term.ensures)
 
 pub loop-k-preserved : goal.loop-k-preserved
 loop-k-preserved c =
@@ -28,8 +28,8 @@ loop-k-preserved c =
     let three = take ((3 * k + 3) - 3 * k) (drop (3 * k) words) in
     let long = length_texts words (texts words) refl in
     let inside : 3 * k < length (texts words) = search rules in
-    rw c.in-ok-push.ensures.items
-    (read_term words three (3 * k) (three_texts words three (3 * k) ((3 * k + 3) - 3 * k) (omega arith) refl) inside (vec_items c.loop-k.terms) c.loop-k.invariant (3 * (k + 1)) c.in-ok-term.field-0 (omega arith) c.in-ok-term.ensures)
+    rw c.in_ok-push.ensures.items
+    (read_term words three (3 * k) (three_texts words three (3 * k) ((3 * k + 3) - 3 * k) (omega arith) refl) inside (vec_items c.loop-k.terms) c.loop-k.invariant (3 * (k + 1)) c.in_ok-term.field-0 (omega arith) c.in_ok-term.ensures)
 
 pub returns : goal.returns
 returns c =

@@ -1,7 +1,7 @@
-use Rattle.std.proofs.Common.{◌≡◌, ◌<◌, List, length, get_or, set, ap, ◌∙◌, arith, rules}
+use Rattle.std.proofs.Common.{◌<◌, List, length, get_or, set, ap, ◌∙◌, rules}
 use Rattle.book.specs.declared.term.Term.{Term}
 use Rattle.settle.specs.Terms.{no_term}
-use Rattle.settle.proofs.Termed.{put_next, put_all}
+use Rattle.settle.proofs.Termed.{put_next}
 use Rattle.settle.proofs.terms.first.Goals as goal
 
 pub loop-k-preserved : goal.loop-k-preserved

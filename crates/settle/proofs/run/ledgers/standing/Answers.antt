@@ -10,11 +10,11 @@ pub loop-before-preserved : goal.loop-before-preserved
 loop-before-preserved g c =
     let owed = g.L.Ledger.owed c.args.ledger.now in
     let k = c.loop-before.before in (
-      omega (arith, c.loop-before.invariant.0, c.standing-under-count.ensures, standing_more owed k),
-      omega (arith, c.loop-before.invariant.1, c.standing-under-count.ensures, standing_few owed (k + 1) 64),
+      omega (arith, c.loop-before.invariant.0, c.standing_under-count.ensures, standing_more owed k),
+      omega (arith, c.loop-before.invariant.1, c.standing_under-count.ensures, standing_few owed (k + 1) 64),
     )
 
-pub overflow-add-count : goal.overflow-add-count
-overflow-add-count g c =
+pub overflow_add-count : goal.overflow_add-count
+overflow_add-count g c =
     let owed = g.L.Ledger.owed c.args.ledger.now in
-    omega (arith, c.loop-before.invariant.1, c.standing-under-count.ensures, standing_few owed (c.loop-before.before + 1) 64)
+    omega (arith, c.loop-before.invariant.1, c.standing_under-count.ensures, standing_few owed (c.loop-before.before + 1) 64)
