@@ -87,6 +87,13 @@ pub(crate) fn byte(heap: Global, words: &[&str]) -> Result<u8, NoStep>
     }
 }
 
+// A set of regions.
+pub(crate) fn set(heap: Global, words: &[&str]) -> Result<u8, NoStep>
+    ensures { Parsed (λ n. Numbers 255 (texts words.now) (n ∷ [])) result }
+{
+    byte(heap, words)
+}
+
 pub(crate) fn three_bytes(heap: Global, words: &[&str]) -> Result<(u8, u8, u8), NoStep>
     ensures { Parsed (λ p. Numbers 255 (texts words.now) (p.0 ∷ p.1 ∷ p.2 ∷ [])) result }
 {

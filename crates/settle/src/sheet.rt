@@ -174,6 +174,58 @@ mod tests {
             "totals 0",
             "dispatch",
             "dispatch -1",
+        ];
+        for line in lines.iter() {
+            assert!(rt;
+                matches!(parse(heap, *line), Err(NoStep::Unknown)),
+                "{}",
+                *line
+            );
+        }
+    }
+
+    #[test]
+    fn what_is_a_step(rt: HostRuntime) {
+        let heap = rt.alloc();
+        let lines = [
+            "units",
+            "units-file a",
+            "samples day1.bin",
+            "publish",
+            "publish anyway",
+            "metered a",
+            "profile 0 0 0 0 0",
+            "island 255",
+            "handover 65535 0",
+            "totals",
+            "dispatch 0",
+        ];
+        for line in lines.iter() {
+            assert!(rt; matches!(parse(heap, *line), Ok(Some(_))), "{}", *line);
+        }
+    }
+
+    #[test]
+    fn numbers_of_steps(rt: HostRuntime) -> Result<(), Fail> {
+        let heap = rt.alloc();
+        match parse(heap, "\tunits 0  255 # the first and the last")? {
+            Some(Step::Units(owners)) => assert_eq!(rt; owners.as_slice(), [0, 255].as_slice()),
+            _ => return Err(Fail::new("no units")),
+        }
+        match parse(heap, "profile 4294967295 0 1 00 2 65535 7")? {
+            Some(Step::Profile { totals, weights }) => {
+                assert_eq!(rt; totals, [4_294_967_295, 0, 1, 0, 2]);
+                assert!(rt; weights[0] == 65_535 && weights[1] == 7 && weights[2] == 0);
+                Ok(())
+            }
+            _ => Err(Fail::new("no profile")),
+        }
+    }
+
+    #[test]
+    fn what_is_no_step_of_a_book(rt: HostRuntime) {
+        let heap = rt.alloc();
+        let lines = [
             "table 1",
             "journal",
             "journal 5",
@@ -220,20 +272,9 @@ mod tests {
     }
 
     #[test]
-    fn what_is_a_step(rt: HostRuntime) {
+    fn what_is_a_step_of_a_book(rt: HostRuntime) {
         let heap = rt.alloc();
         let lines = [
-            "units",
-            "units-file a",
-            "samples day1.bin",
-            "publish",
-            "publish anyway",
-            "metered a",
-            "profile 0 0 0 0 0",
-            "island 255",
-            "handover 65535 0",
-            "totals",
-            "dispatch 0",
             "table",
             "journal 65535 a.journal",
             "amounts",
@@ -252,19 +293,8 @@ mod tests {
     }
 
     #[test]
-    fn numbers_of_steps(rt: HostRuntime) -> Result<(), Fail> {
+    fn numbers_of_ledgers_and_splits(rt: HostRuntime) -> Result<(), Fail> {
         let heap = rt.alloc();
-        match parse(heap, "\tunits 0  255 # the first and the last")? {
-            Some(Step::Units(owners)) => assert_eq!(rt; owners.as_slice(), [0, 255].as_slice()),
-            _ => return Err(Fail::new("no units")),
-        }
-        match parse(heap, "profile 4294967295 0 1 00 2 65535 7")? {
-            Some(Step::Profile { totals, weights }) => {
-                assert_eq!(rt; totals, [4_294_967_295, 0, 1, 0, 2]);
-                assert!(rt; weights[0] == 65_535 && weights[1] == 7 && weights[2] == 0);
-            }
-            _ => return Err(Fail::new("no profile")),
-        }
         match parse(heap, "journal 007 a.journal")? {
             Some(Step::Journal { records, name }) => {
                 assert_eq!(rt; records, 7);

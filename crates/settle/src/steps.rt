@@ -90,7 +90,7 @@ fn profile(heap: Global, words: &[&str]) -> Result<Step, NoStep>
 fn island(heap: Global, words: &[&str]) -> Result<Step, NoStep>
     ensures { Parsed (λ step. Asks (codes "island") (texts words.now) step) result }
 {
-    Ok(Step::Island(numbers::byte(heap, words)?))
+    Ok(Step::Island(numbers::set(heap, words)?))
 }
 
 fn handover(heap: Global, words: &[&str]) -> Result<Step, NoStep>
@@ -110,7 +110,7 @@ fn totals(words: &[&str]) -> Result<Step, NoStep>
 fn dispatch(heap: Global, words: &[&str]) -> Result<Step, NoStep>
     ensures { Parsed (λ step. Asks (codes "dispatch") (texts words.now) step) result }
 {
-    Ok(Step::Dispatch(numbers::byte(heap, words)?))
+    Ok(Step::Dispatch(numbers::set(heap, words)?))
 }
 
 fn table(words: &[&str]) -> Result<Step, NoStep>
