@@ -1,4 +1,6 @@
 // The calls of a book on both makes of a ledger, their refusals and the worked lines, run as tests.
+#![tactic(auto)]
+
 #[cfg(test)]
 mod asks;
 #[cfg(test)]

@@ -1,4 +1,6 @@
 // Recoveries on both makes of a ledger, their refusals and their shares, run as tests.
+#![tactic(auto)]
+
 #[cfg(test)]
 mod made;
 #[cfg(test)]

@@ -23,15 +23,15 @@ portion-next-requires c =
     omega (arith, sum_to_more k w, sum_to_mono (suc k) (length c.args.weights.now) w (omega arith))
 
 -- what `portion` answered is the quotient that the first k + 1 weights reach
-next-is : (c : goal.After-portion-next) → c.portion-next.result ≡ c.args.amount * sum_to (suc c.loop-k.k) (listed c.args.weights.now) / sum_to (length c.args.weights.now) (listed c.args.weights.now)
-next-is c =
+next_is : (c : goal.After-portion-next) → c.portion-next.result ≡ c.args.amount * sum_to (suc c.loop-k.k) (listed c.args.weights.now) / sum_to (length c.args.weights.now) (listed c.args.weights.now)
+next_is c =
     let w = listed c.args.weights.now in
     let so_far : c.loop-k.reached + w c.loop-k.k ≡ sum_to (suc c.loop-k.k) w = omega (arith, sum_to_more c.loop-k.k w) in
     cc so_far
 
 pub overflow_sub-shares : goal.overflow_sub-shares
 overflow_sub-shares c =
-    omega (arith, next-is c, reached_le c.args.amount (length c.args.weights.now) (listed c.args.weights.now) c.loop-k.k)
+    omega (arith, next_is c, reached_le c.args.amount (length c.args.weights.now) (listed c.args.weights.now) c.loop-k.k)
 
 pub loop-k-preserved : goal.loop-k-preserved
 loop-k-preserved c =
@@ -39,10 +39,10 @@ loop-k-preserved c =
     let w = listed c.args.weights.now in
     let step = share_is c.args.amount (length c.args.weights.now) w k in (
       rw add-one (omega (arith, sum_to_more k w)),
-      rw add-one (next-is c),
+      rw add-one (next_is c),
       below_more _ _
           (λ i h. let ne : i ≢ k = omega arith in rw get_or-set_other (c.loop-k.invariant.2 i h))
-          (let lt : k < length c.loop-k.shares = omega arith in rw get_or-set_same (omega (arith, next-is c, step))),
+          (let lt : k < length c.loop-k.shares = omega arith in rw get_or-set_same (omega (arith, next_is c, step))),
     )
 
 pub returns : goal.returns

@@ -47,8 +47,8 @@ overflow_cast-result g c =
     record { fits = omega (arith, c.total-cmpf.ensures, causers_total c.args.regions b c.energies_in-energies.result c.causers-causers.result long energies c.causers-causers.ensures.parties c.causers-causers.ensures.residual, cmpf_most c.args.regions b, factors_most c.args.factors.now) }
 
 -- what the code makes of the residual's factor is CRMPF, at any part
-crmpf-made : (g : given.Over) (c : goal.After-portion-crmpf g) (part : ℕ) → c.portion-crmpf.result ≡ crmpf c.args.regions (basis_of part c.args.factors.now (g.E.EnergySource.kwh c.args.source.now))
-crmpf-made g c part =
+crmpf_made : (g : given.Over) (c : goal.After-portion-crmpf g) (part : ℕ) → c.portion-crmpf.result ≡ crmpf c.args.regions (basis_of part c.args.factors.now (g.E.EnergySource.kwh c.args.source.now))
+crmpf_made g c part =
     let b = basis_of part c.args.factors.now (g.E.EnergySource.kwh c.args.source.now) in
     let long : length c.customers-customers_inside.result ≡ 64 = search rules in
     let long' : length c.customers-customers_overall.result ≡ 64 = search rules in
@@ -65,7 +65,7 @@ crmpf-made g c part =
 pub overflow_cast-result-2 : goal.overflow_cast-result-2
 overflow_cast-result-2 g c =
     let b = basis_of 0 c.args.factors.now (g.E.EnergySource.kwh c.args.source.now) in
-    record { fits = omega (arith, crmpf-made g c 0, crmpf_most c.args.regions b, factors_most c.args.factors.now) }
+    record { fits = omega (arith, crmpf_made g c 0, crmpf_most c.args.regions b, factors_most c.args.factors.now) }
 
 pub returns : goal.returns
 returns g c part =
@@ -75,9 +75,9 @@ returns g c part =
     let energies = energies_are c.args.regions b (figure_of c.copied-figures.result.rows) c.energies_in-energies.result c.copied-figures.ensures c.energies_in-energies.ensures in
     record {
       energies = energies;
-      causers = weights_are c.args.regions b c.causers-causers.result c.portion-crmpf.result long' (causers_are c.args.regions b c.energies_in-energies.result c.causers-causers.result energies c.causers-causers.ensures.parties) (crmpf-made g c part);
+      causers = weights_are c.args.regions b c.causers-causers.result c.portion-crmpf.result long' (causers_are c.args.regions b c.energies_in-energies.result c.causers-causers.result energies c.causers-causers.ensures.parties) (crmpf_made g c part);
       customers = customers_are c.args.regions b c.energies_in-energies.result c.customers-customers_inside.result energies c.customers-customers_inside.ensures;
       all_causers = c.total-cmpf.ensures ∙ causers_total c.args.regions b c.energies_in-energies.result c.causers-causers.result long' energies c.causers-causers.ensures.parties c.causers-causers.ensures.residual;
-      residual = crmpf-made g c part;
+      residual = crmpf_made g c part;
       all_customers = c.total-residual_energy.ensures ∙ customers_total c.args.regions b c.energies_in-energies.result c.customers-customers_inside.result long energies c.customers-customers_inside.ensures;
     }
