@@ -1,5 +1,7 @@
 // The worked figures of the settlement rules: proved of the definitions that the contracts of the code cite, then run by the
 // code and printed.
+#![tactic(auto)]
+
 ghost use Rattle.std.specs.Prelude.{◌≡◌, ◌≤◌, [], ◌∷◌, length, ◌+ℤ◌, IfOk};
 ghost use Rattle.sampling.specs.Category.{sum_in};
 ghost use Rattle.sampling.specs.Units.{sum_at};
