@@ -579,8 +579,19 @@ dispatch 3                             # 0
 """
 
 
+def going_on(sheet):
+    """The sheet, with two comments that hold where more is published after it."""
+    return sheet.replace(
+        "It is not published: the table is the one above.",
+        "It stays open: the last factors are those of line 19.",
+    ).replace(
+        "from the table, which was published last.",
+        "from the factors published last, those of line 19.",
+    )
+
+
 # The same, and then what is posted to a ledger. example/book.stdout is what it prints.
-BOOK_SHEET = SHEET + """
+BOOK_SHEET = going_on(SHEET) + """
 # ---- The ledger. A sheet has one, for the whole run, wherever it is chosen. Nothing is posted yet: only recoveries post.
 table
 amounts

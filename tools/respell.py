@@ -21,7 +21,6 @@ MADE = re.compile(r":\s*(?:abbrev\s+)?goal\.")
 # Text of a .rt file that is read as ghost text: imports, clauses and ghost items.
 GHOST = re.compile(r"^\s*(?:ghost\b|requires\b|ensures\b)")
 
-
 # Names that would fall together with another one of the same file.
 OTHERS = {
     "is-number": "is_number_within",
@@ -37,10 +36,7 @@ def respelled(name):
     if name in OTHERS:
         return OTHERS[name]
     name = name.replace("ℤ", "-int").replace("·", "-")
-    name = re.sub(r"([a-z0-9])([A-Z])", r"\1_\2", name) if name[0].islower() else name
-    name = re.sub(r"([a-z0-9])([A-Z])", r"\1_\2", name) if "-" in name and name[0].islower() else name
-    name = name.replace("-", "_")
-    return name.lower() if name[0].islower() else name
+    return re.sub(r"([a-z0-9])([A-Z])", r"\1_\2", name).replace("-", "_").lower()
 
 
 def sources(root, ending):
@@ -65,9 +61,8 @@ def defined(root):
 
 
 def mapped(root):
-    words = {"use", "module", "let", "in", "mod", "pub", "record", "data", "where", "unfolding"}
-    names = {n for n in defined(root) if n not in words}
-    return {n: respelled(n) for n in names if respelled(n) != n and n[0].islower()}
+    """Each name that is not in snake case yet, and what it becomes. Types and modules begin with a capital, and stay."""
+    return {n: respelled(n) for n in defined(root) if n[0].islower() and respelled(n) != n}
 
 
 def foreign(text, crates):
