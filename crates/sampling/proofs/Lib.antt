@@ -1,4 +1,6 @@
 pub mod Accepted
+pub mod Arrays
+pub mod Chunks
 pub mod History
 pub mod Products
 pub mod Published

@@ -2,11 +2,8 @@
 use Rattle.std.specs.Prelude.{◌≡◌, ℕ, suc, ◌+◌, ◌*◌, ◌/◌, ◌%◌, ◌<◌, ◌≤◌, Bool, List, length, ℤ, pos, ◌==◌, slice_index, slice_index_or, unsigned_abs}
 use Rattle.std.specs.Int.{w16}
 use Rattle.std.proofs.Common.{to_z}
+use Rattle.foundation.specs.Bytes.{number_at}
 use Rattle.sampling.specs.declared.reader.Record.{Record}
-
--- the big-endian number in the two bytes at a place
-unfoldable pub number_at : List ℕ → ℕ → ℕ
-number_at b i = slice_index b i * 256 + slice_index b (i + 1)
 
 -- the fields of a record
 pub record Fields : Type 0 where
@@ -42,6 +39,10 @@ raise_at b r = (fields_at b r).enablement % 2 == 1
 
 abbrev pub lower_at : List ℕ → ℕ → Bool
 lower_at b r = (fields_at b r).enablement / 2 % 2 == 1
+
+-- the bytes of record r
+abbrev pub IsRecord : List ℕ → ℕ → List ℕ → Type 0
+IsRecord b r c = (i : ℕ) → i < 156 → slice_index c i ≡ slice_index b (156 * r + i)
 
 -- a record that holds what the bytes say at place r
 pub record Holds (b : List ℕ) (r : ℕ) (x : Record) : Type 0 where

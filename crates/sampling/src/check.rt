@@ -1,12 +1,11 @@
 // The checks of a sample interval, in the order in which faults are due.
 ghost use Rattle.std.specs.Prelude.{◌≡◌, ℕ, suc, ◌+◌, ◌≤◌, length, pos, IfOk, Some, None, slice_index_or};
 ghost use Rattle.foundation.specs.Fault.{told, refusal};
-ghost use Rattle.foundation.specs.declared.fault.Layer.TheVariants.{Samples};
 ghost use Rattle.foundation.specs.First.{or_else, first_to};
 ghost use Rattle.sampling.specs.Interval.{after, value_fault, fields_fault, indicator_fault, unit_fault, interval_fault};
 ghost use Rattle.sampling.specs.Records.{fields_of, interval_at};
 
-use crate::reader::{RECORD_BYTES, Reader, Record};
+use crate::reader::{RECORD_BYTES, Record};
 use foundation::fault::{Fault, Layer, Refusal};
 use foundation::interval::SampleInterval;
 
@@ -21,24 +20,14 @@ const ENABLEMENTS: u8 = 3;
 
 const MISSING: i16 = -32_768;
 
-pub(crate) fn samples_fault(refusal: Refusal, place: usize) -> Fault
-    ensures { result ≡ record { refusal = refusal; layer = Samples; place = place } }
-{
-    Fault {
-        refusal,
-        layer: Layer::Samples,
-        place,
-    }
-}
-
 fn check_value(value: i16, limit: u16, place: usize) -> Result<(), Fault>
     ensures { refusal result ≡ value_fault place limit value }
 {
     if value == MISSING {
-        return Err(samples_fault(Refusal::MissingSample, place));
+        return Err(Layer::Samples.fault(Refusal::MissingSample, place));
     }
     if value.unsigned_abs() > limit {
-        return Err(samples_fault(Refusal::OutOfRange, place));
+        return Err(Layer::Samples.fault(Refusal::OutOfRange, place));
     }
     Ok(())
 }
@@ -57,13 +46,13 @@ fn check_fields(sample: &Record, unit: u16, enablements: u8, limit: u16) -> Resu
     ensures { refusal result ≡ fields_fault sample.now.place unit enablements limit (fields_of sample.now) }
 {
     if sample.unit != unit {
-        return Err(samples_fault(Refusal::UnexpectedUnit, sample.place));
+        return Err(Layer::Samples.fault(Refusal::UnexpectedUnit, sample.place));
     }
     if sample.enablement > enablements {
-        return Err(samples_fault(Refusal::OutOfRange, sample.place));
+        return Err(Layer::Samples.fault(Refusal::OutOfRange, sample.place));
     }
     if sample.zero != 0 {
-        return Err(samples_fault(Refusal::OutOfRange, sample.place));
+        return Err(Layer::Samples.fault(Refusal::OutOfRange, sample.place));
     }
     check_values(&sample.values, limit, sample.place)
 }
@@ -73,13 +62,10 @@ fn check_indicator(sample: &Record, last: Option<SampleInterval>) -> Result<Samp
     ensures cases { refusal result ≡ indicator_fault sample.now.place (after last) (fields_of sample.now) }
     ensures value { IfOk result (λ i. i.number ≡ sample.now.interval) }
 {
-    let Some(interval) = SampleInterval::new(sample.interval) else {
-        return Err(samples_fault(Refusal::OutOfRange, sample.place));
-    };
-    if let Some(used) = last {
-        if interval.number() <= used.number() {
-            return Err(samples_fault(Refusal::Repeated, sample.place));
-        }
+    let interval = SampleInterval::new(sample.interval)
+        .ok_or(Layer::Samples.fault(Refusal::OutOfRange, sample.place))?;
+    if last.is_some_and(|used| interval.number() <= used.number()) {
+        return Err(Layer::Samples.fault(Refusal::Repeated, sample.place));
     }
     check_fields(sample, INDICATOR_UNIT, 0, INDICATOR_LIMIT)?;
     Ok(interval)
@@ -89,7 +75,7 @@ fn check_unit(sample: &Record, interval: SampleInterval, unit: u16) -> Result<()
     ensures { refusal result ≡ unit_fault sample.now.place interval.number unit (fields_of sample.now) }
 {
     if sample.interval != interval.number() {
-        return Err(samples_fault(Refusal::OutOfRange, sample.place));
+        return Err(Layer::Samples.fault(Refusal::OutOfRange, sample.place));
     }
     check_fields(sample, unit, ENABLEMENTS, DEVIATION_LIMIT)
 }
@@ -105,17 +91,15 @@ pub(crate) fn check_interval(
     ensures value { IfOk result (λ i. i.number ≡ interval_at bytes.now) }
 {
     if units == 0 {
-        return Err(samples_fault(Refusal::NothingSampled, 0));
+        return Err(Layer::Samples.fault(Refusal::NothingSampled, 0));
     }
     if bytes.len() != RECORD_BYTES * (units + 1) {
-        return Err(samples_fault(Refusal::WrongLength, 0));
+        return Err(Layer::Samples.fault(Refusal::WrongLength, 0));
     }
-    let mut reader = Reader::new(bytes);
-    let indicator = reader.read();
-    let interval = check_indicator(&indicator, last)?;
-    for unit in 0..units {
-        let sample = reader.read();
-        check_unit(&sample, interval, unit as u16)?;
+    let (records, _) = bytes.as_chunks::<RECORD_BYTES>();
+    let interval = check_indicator(&Record::read(0, &records[0]), last)?;
+    for (unit, record) in records[1..].iter().enumerate() {
+        check_unit(&Record::read(unit + 1, record), interval, unit as u16)?;
     }
     Ok(interval)
 }

@@ -6,7 +6,7 @@ ghost use Rattle.sampling.specs.Units.{Added, Bounded, Within};
 ghost use Rattle.sampling.specs.Records.{Inside};
 
 use crate::category::{Category, Sums};
-use crate::reader::Reader;
+use crate::reader::{RECORD_BYTES, Record, VALUES};
 
 #[derive(Clone, Copy)]
 pub struct Unit {
@@ -15,18 +15,14 @@ pub struct Unit {
 }
 
 // What a unit's values add, each times the frequency indicator's value beside it.
-fn products(indicator: &[i16], values: &[i16], raise: bool, lower: bool) -> Sums
-    requires long { length indicator.now ≡ length values.now }
-    requires short { length values.now ≤ 75 }
+fn products(indicator: &[i16; VALUES], values: &[i16; VALUES], raise: bool, lower: bool) -> Sums
     requires indicated { Within 1560 indicator.now }
     requires deviated { Within 20000 values.now }
-    ensures { (c : Category) → sum_in result c ≡ sum_to_int (length values.now) (λ k. product_in c (slice_index_or indicator.now k (pos 0)) raise lower (slice_index_or values.now k (pos 0))) }
+    ensures { (c : Category) → sum_in result c ≡ sum_to_int 75 (λ k. product_in c (slice_index_or indicator.now k (pos 0)) raise lower (slice_index_or values.now k (pos 0))) }
 {
     let mut sums = Sums::zero();
-    let mut k = 0;
-    for value in values {
-        sums.count(indicator[k], raise, lower, *value);
-        k += 1;
+    for (indicator, value) in indicator.iter().zip(values) {
+        sums.count(*indicator, raise, lower, *value);
     }
     sums
 }
@@ -38,10 +34,10 @@ pub(crate) fn add_products(units: &mut [Unit], bytes: &[u8])
     requires inside { Inside (length units.old) bytes.now }
     ensures { Added bytes.now units.old units.new }
 {
-    let mut reader = Reader::new(bytes);
-    let indicator = reader.read();
-    for u in 0..units.len() {
-        let sample = reader.read();
+    let (records, _) = bytes.as_chunks::<RECORD_BYTES>();
+    let indicator = Record::read(0, &records[0]);
+    for (u, record) in records[1..].iter().enumerate() {
+        let sample = Record::read(u + 1, record);
         let raise = sample.enablement % 2 == 1;
         let lower = sample.enablement / 2 % 2 == 1;
         let sums = products(&indicator.values, &sample.values, raise, lower);

@@ -12,11 +12,11 @@ ghost use Rattle.sampling.specs.Weights.{ready_fault};
 
 use super::Sampling;
 use crate::category::{Category, Sums};
-use crate::check::{check_interval, samples_fault};
+use crate::check::check_interval;
 use crate::factors::Factors;
 use crate::unit::{Unit, add_products};
 use crate::weights::{all_zero, counts_of, weights_of};
-use foundation::fault::{Fault, Refusal};
+use foundation::fault::{Fault, Layer, Refusal};
 use std::alloc::Global;
 
 const MOST_UNITS: usize = 256;
@@ -28,7 +28,7 @@ fn check_owners(owners: &[u8]) -> Result<(), Fault>
 {
     for (unit, owner) in owners.iter().enumerate() {
         if *owner > RESIDUAL {
-            return Err(samples_fault(Refusal::OutOfRange, unit));
+            return Err(Layer::Samples.fault(Refusal::OutOfRange, unit));
         }
     }
     Ok(())
@@ -38,10 +38,10 @@ fn check_registration(units: usize, owners: &[u8]) -> Result<(), Fault>
     ensures { refusal result ≡ registration_fault units owners.now }
 {
     if units > 0 {
-        return Err(samples_fault(Refusal::Repeated, 0));
+        return Err(Layer::Samples.fault(Refusal::Repeated, 0));
     }
     if owners.is_empty() || owners.len() > MOST_UNITS {
-        return Err(samples_fault(Refusal::WrongLength, 0));
+        return Err(Layer::Samples.fault(Refusal::WrongLength, 0));
     }
     check_owners(owners)
 }
@@ -57,7 +57,7 @@ fn new_units(heap: Global, owners: &[u8]) -> Result<Vec<Unit>, Fault>
             sums: Sums::zero(),
         };
         if units.push(unit).is_err() {
-            return Err(samples_fault(Refusal::NoMemory, 0));
+            return Err(Layer::Samples.fault(Refusal::NoMemory, 0));
         }
     }
     Ok(units)
@@ -114,10 +114,10 @@ impl Sampling {
         ensures law { (h : List Event) → Gone h self.now → refusal result ≡ ready_fault (sampled_in h) }
     {
         if self.units.is_empty() || self.used == 0 {
-            return Err(samples_fault(Refusal::NothingSampled, 0));
+            return Err(Layer::Samples.fault(Refusal::NothingSampled, 0));
         }
         if all_zero(&weights_of(self.units.as_slice(), self.used)) {
-            return Err(samples_fault(Refusal::NoWeight, 0));
+            return Err(Layer::Samples.fault(Refusal::NoWeight, 0));
         }
         Ok(())
     }

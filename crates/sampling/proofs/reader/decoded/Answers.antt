@@ -1,14 +1,16 @@
-use Rattle.std.proofs.Common.{◌<◌, ◌≢◌, length, ap, ◌∙◌, arith, w16, SFits, to_z, rules, below_more}
-use Rattle.std.proofs.lemmas.List.{length-set, get_or-set_same, get_or-set_other}
-use Rattle.std.proofs.lemmas.Int.{to_z-of_z}
+use Rattle.std.proofs.Common.{◌≡◌, ℕ, ◌+◌, ◌*◌, ◌<◌, List, [], get_or, pos, ap, ◌∙◌, arith, rules, w16, to_z}
+use Rattle.std.specs.Simd.{first_chunks}
+use Rattle.foundation.specs.Bytes.{number_at}
+use Rattle.sampling.proofs.Arrays.{made_at}
+use Rattle.sampling.proofs.Chunks.{chunk_at}
 use Rattle.sampling.proofs.reader.decoded.Goals as goal
 
-pub loop-k-preserved : goal.loop-k-preserved
-loop-k-preserved c =
-    let fits : SFits w16 c.cast_signed.result = search rules in
-    let long : c.loop-k.k < length c.loop-k.values = omega (arith, c.loop-k.invariant.0) in (
-      simp length-set c.loop-k.invariant.0,
-      below_more _ _
-          (λ j h. let ne : j ≢ c.loop-k.k = omega arith in rw get_or-set_other (c.loop-k.invariant.1 j h))
-          (rw get_or-set_same (rw to_z-of_z (c.cast_signed.ensures ∙ ap (to_z w16) c.number.ensures))),
-    )
+in_pair : (xs : List ℕ) (pairs : List (List ℕ)) (n k : ℕ) → pairs ≡ first_chunks 2 n xs → k < n → get_or (get_or pairs k []) 0 0 * 256 + get_or (get_or pairs k []) 1 0 ≡ number_at xs (2 * k)
+unfolding number_at
+in_pair xs pairs n k e l = rw (e, chunk_at 2 n xs k 0 l (omega arith), chunk_at 2 n xs k 1 l (omega arith)) (ap (λ i. get_or xs i 0 * 256 + get_or xs (2 * k + 1) 0) (omega arith))
+
+pub returns : goal.returns
+returns c = λ k l.
+    let pairs : List (List ℕ) = c.as_chunks.result.0.now in
+    made_at _ (λ i y. y ≡ to_z w16 (get_or (get_or pairs i []) 0 0 * 256 + get_or (get_or pairs i []) 1 0)) _ (λ i y q h. search rules) _ _ c.from_fn.ensures.items k (pos 0) l
+    ∙ ap (to_z w16) (in_pair c.args.values.now pairs _ k c.as_chunks.ensures.front (omega (arith, c.requires)))

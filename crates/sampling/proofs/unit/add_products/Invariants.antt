@@ -1,6 +1,0 @@
-use Rattle.std.proofs.Common.{◌≡◌, suc}
-use Rattle.sampling.proofs.Units.{Sofar}
-use Rattle.sampling.proofs.unit.add_products.Given as goal
-
-abbrev pub invariant-loop-u : goal.invariant-loop-u
-invariant-loop-u l = (l.reader.place ≡ suc l.u) × (l.reader.bytes.now ≡ l.bytes) × Sofar l.bytes l.initial.units l.units l.u
