@@ -1,6 +1,4 @@
 pub mod Accepted
-pub mod Arrays
-pub mod Chunks
 pub mod History
 pub mod Products
 pub mod Published

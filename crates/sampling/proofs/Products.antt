@@ -1,5 +1,5 @@
 -- What a sample adds to a category.
-use Rattle.std.proofs.Common.{◌≡◌, ℕ, ◌+◌, ◌*◌, ◌≤◌, Bool, true, false, cond, List, length, get_or, ℤ, pos, ◌+ℤ◌, ◌*ℤ◌, nat_abs, Some, None, Option, sym, ap, ◌∙◌, mul-le-mul, add-one, arith}
+use Rattle.std.proofs.Common.{◌≡◌, ℕ, suc, ◌+◌, ◌*◌, ◌≤◌, Bool, true, false, cond, List, length, get_or, ℤ, pos, ◌+ℤ◌, ◌*ℤ◌, nat_abs, Some, None, Option, sym, ap, ◌∙◌, mul-le-mul, add-one, arith}
 use Rattle.foundation.specs.Sums.{sum_to_int}
 use Rattle.foundation.proofs.Sums.{sum_to_int_more, sum_to_int_abs}
 use Rattle.sampling.specs.Units.{Within}
@@ -36,7 +36,12 @@ products_bound is vs raise lower c n h e i v =
     sum_to_int_abs n 31200000 (products_of is vs raise lower c)
     (λ k l. product_bound c (get_or is k (pos 0)) raise lower (get_or vs k (pos 0)) 1560 20000 (i k (omega arith)) (v k (omega arith)))
 
-pub products_more : (is vs : List ℤ) (raise lower : Bool) (c : Category) (n k : ℕ) (s t : ℤ) → k ≡ n → s ≡ sum_to_int n (products_of is vs raise lower c) → t ≡ s +ℤ product_in c (get_or is k (pos 0)) raise lower (get_or vs n (pos 0)) → t ≡ sum_to_int (n + 1) (products_of is vs raise lower c)
-products_more is vs raise lower c n k s t e h f =
-    let one = add-one n in
-    f ∙ ap (λ z. z +ℤ product_in c (get_or is k (pos 0)) raise lower (get_or vs n (pos 0))) h ∙ ap (λ j. sum_to_int n (products_of is vs raise lower c) +ℤ product_in c (get_or is j (pos 0)) raise lower (get_or vs n (pos 0))) e ∙ sym (sum_to_int_more n (products_of is vs raise lower c)) ∙ ap (λ m. sum_to_int m (products_of is vs raise lower c)) (sym one)
+pub products_more : (is vs : List ℤ) (raise lower : Bool) (c : Category) (n m : ℕ) (i v s t : ℤ) → i ≡ get_or is n (pos 0) → v ≡ get_or vs n (pos 0) → m ≡ n + 1 → s ≡ sum_to_int n (products_of is vs raise lower c) → t ≡ s +ℤ product_in c i raise lower v → t ≡ sum_to_int m (products_of is vs raise lower c)
+products_more is vs raise lower c n m i v s t at at' more h f =
+    let next : m ≡ suc n = omega arith in
+    f
+    ∙ ap (λ z. z +ℤ product_in c i raise lower v) h
+    ∙ ap (λ x. sum_to_int n (products_of is vs raise lower c) +ℤ product_in c x raise lower v) at
+    ∙ ap (λ x. sum_to_int n (products_of is vs raise lower c) +ℤ product_in c (get_or is n (pos 0)) raise lower x) at'
+    ∙ sym (sum_to_int_more n (products_of is vs raise lower c))
+    ∙ ap (λ j. sum_to_int j (products_of is vs raise lower c)) (sym next)

@@ -9,7 +9,7 @@ use Rattle.foundation.specs.First.{first_to}
 use Rattle.foundation.proofs.First.{first_to_eq, first_to_all, first_to_at}
 use Rattle.sampling.specs.declared.reader.Record.{Record}
 use Rattle.sampling.specs.Records.{Holds, IsRecord, fields_of, fields_at, interval_at, value_at}
-use Rattle.sampling.proofs.Chunks.{chunk_at}
+use Rattle.foundation.proofs.Chunks.{chunk_at}
 use Rattle.sampling.specs.Interval.{value_fault, fields_fault, indicator_fault, unit_fault, record_fault, interval_fault}
 
 fields_held : (b : List ℕ) (r : ℕ) (x : Record) (expected most limit : ℕ) → Holds b r x → fields_fault x.place expected most limit (fields_of x) ≡ fields_fault r expected most limit (fields_at b r)

@@ -56,10 +56,6 @@ one_more b before us u s l h e =
       rest = λ v c m. let q : v ≢ u = omega arith in ap (λ x. sum_in x.sums c) (get_or-set_other us u v new no_unit q) ∙ h.rest v c (omega arith);
     }
 
--- what was worked out of two records is what the interval adds
-pub sums_held : (b : List ℕ) (u : ℕ) (c : Category) (x y : Record) (raise lower : Bool) (s : ℤ) → Holds b 0 x → Holds b (suc u) y → length y.values ≡ 75 → raise ≡ raise_at b (suc u) → lower ≡ lower_at b (suc u) → s ≡ sum_to_int (length y.values) (products_of x.values y.values raise lower c) → s ≡ added_by b u c
-sums_held b u c x y raise lower s h k long e f q = q ∙ ap (λ n. sum_to_int n (products_of x.values y.values raise lower c)) long ∙ added_held b u c x y raise lower h k e f
-
 pub zero_sum : (c : Category) → sum_in no_unit.sums c ≡ pos 0
 zero_sum RaiseNotEnabled = refl
 zero_sum RaiseEnabled = refl

@@ -2,6 +2,8 @@
 ghost use Rattle.std.specs.Prelude.{◌≡◌, ◌^◌, ◌≤◌, pos, ◌+ℤ◌, if◌then◌else◌, unsigned_abs};
 ghost use Rattle.sampling.specs.Category.{category_of, product_in, same, sum_in, Small};
 
+use std::ops::AddAssign;
+
 // By the service that the frequency calls for, raise or lower, and whether the unit is enabled for it: in the order of the
 // names RNEF, REF, LNEF and LEF.
 #[derive(Clone, Copy, PartialEq, Eq, Debug)]
@@ -36,7 +38,7 @@ impl Category {
 }
 
 // A figure for each category.
-#[derive(Clone, Copy)]
+#[derive(Clone, Copy, Default)]
 pub struct Sums {
     pub raise_not_enabled: i64,
     pub raise_enabled: i64,
@@ -45,17 +47,6 @@ pub struct Sums {
 }
 
 impl Sums {
-    pub(crate) fn zero() -> Sums
-        ensures { result ≡ record { raise_not_enabled = pos 0; raise_enabled = pos 0; lower_not_enabled = pos 0; lower_enabled = pos 0 } }
-    {
-        Sums {
-            raise_not_enabled: 0,
-            raise_enabled: 0,
-            lower_not_enabled: 0,
-            lower_enabled: 0,
-        }
-    }
-
     pub(crate) fn of(&self, category: Category) -> i64
         ensures { result ≡ sum_in self.now category }
     {
@@ -89,17 +80,19 @@ impl Sums {
             self.add(category, deviation as i64 * indicator as i64);
         }
     }
+}
 
-    pub(crate) fn plus(self, other: Sums) -> Sums
-        requires sums { Small self }
-        requires others { Small other }
-        ensures { (c : Category) → sum_in result c ≡ sum_in self c +ℤ sum_in other c }
-    {
-        Sums {
-            raise_not_enabled: self.raise_not_enabled + other.raise_not_enabled,
-            raise_enabled: self.raise_enabled + other.raise_enabled,
-            lower_not_enabled: self.lower_not_enabled + other.lower_not_enabled,
-            lower_enabled: self.lower_enabled + other.lower_enabled,
-        }
+impl AddAssign for Sums {
+    ghost use Rattle.sampling.specs.declared.category.Category.{Category};
+
+    ghost can_add_assign = { λ s t. Small s × Small t };
+
+    ghost add_assign_gives = { λ s t r. (c : Category) → sum_in r c ≡ sum_in s c +ℤ sum_in t c };
+
+    fn add_assign(&mut self, other: Sums) {
+        self.raise_not_enabled += other.raise_not_enabled;
+        self.raise_enabled += other.raise_enabled;
+        self.lower_not_enabled += other.lower_not_enabled;
+        self.lower_enabled += other.lower_enabled;
     }
 }

@@ -64,7 +64,7 @@ fn check_indicator(sample: &Record, last: Option<SampleInterval>) -> Result<Samp
 {
     let interval = SampleInterval::new(sample.interval)
         .ok_or(Layer::Samples.fault(Refusal::OutOfRange, sample.place))?;
-    if last.is_some_and(|used| interval.number() <= used.number()) {
+    if last.is_some_and(|used| interval <= used) {
         return Err(Layer::Samples.fault(Refusal::Repeated, sample.place));
     }
     check_fields(sample, INDICATOR_UNIT, 0, INDICATOR_LIMIT)?;

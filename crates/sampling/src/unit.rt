@@ -20,7 +20,7 @@ fn products(indicator: &[i16; VALUES], values: &[i16; VALUES], raise: bool, lowe
     requires deviated { Within 20000 values.now }
     ensures { (c : Category) → sum_in result c ≡ sum_to_int 75 (λ k. product_in c (slice_index_or indicator.now k (pos 0)) raise lower (slice_index_or values.now k (pos 0))) }
 {
-    let mut sums = Sums::zero();
+    let mut sums = Sums::default();
     for (indicator, value) in indicator.iter().zip(values) {
         sums.count(*indicator, raise, lower, *value);
     }
@@ -41,6 +41,6 @@ pub(crate) fn add_products(units: &mut [Unit], bytes: &[u8])
         let raise = sample.enablement % 2 == 1;
         let lower = sample.enablement / 2 % 2 == 1;
         let sums = products(&indicator.values, &sample.values, raise, lower);
-        units[u].sums = units[u].sums.plus(sums);
+        units[u].sums += sums;
     }
 }

@@ -50,17 +50,14 @@ fn new_units(heap: Global, owners: &[u8]) -> Result<Vec<Unit>, Fault>
     ensures made { IfOk result (λ v. v.items ≡ map new_unit owners.now) }
     ensures refused { is_err result ≡ true → refusal result ≡ Some (in_samples 0 0) }
 {
-    let mut units = Vec::new(heap);
-    for owner in owners {
-        let unit = Unit {
+    owners
+        .iter()
+        .map(|owner| Unit {
             owner: *owner,
-            sums: Sums::zero(),
-        };
-        if units.push(unit).is_err() {
-            return Err(Layer::Samples.fault(Refusal::NoMemory, 0));
-        }
-    }
-    Ok(units)
+            sums: Sums::default(),
+        })
+        .collect(heap)
+        .map_err(|_| Layer::Samples.fault(Refusal::NoMemory, 0))
 }
 
 impl Sampling {

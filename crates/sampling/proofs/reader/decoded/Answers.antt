@@ -1,8 +1,8 @@
 use Rattle.std.proofs.Common.{◌≡◌, ℕ, ◌+◌, ◌*◌, ◌<◌, List, [], get_or, pos, ap, ◌∙◌, arith, rules, w16, to_z}
 use Rattle.std.specs.Simd.{first_chunks}
 use Rattle.foundation.specs.Bytes.{number_at}
-use Rattle.sampling.proofs.Arrays.{made_at}
-use Rattle.sampling.proofs.Chunks.{chunk_at}
+use Rattle.foundation.proofs.Arrays.{made_at}
+use Rattle.foundation.proofs.Chunks.{chunk_at}
 use Rattle.sampling.proofs.reader.decoded.Goals as goal
 
 in_pair : (xs : List ℕ) (pairs : List (List ℕ)) (n k : ℕ) → pairs ≡ first_chunks 2 n xs → k < n → get_or (get_or pairs k []) 0 0 * 256 + get_or (get_or pairs k []) 1 0 ≡ number_at xs (2 * k)

@@ -1,9 +1,9 @@
-use Rattle.std.proofs.Common.{◌≡◌, ℕ, suc, ◌*◌, ◌<◌, ◌≤◌, Bool, length, pos, ◌+ℤ◌, slice_index_or, ◌+◌, ◌-◌, ℤ, ◌-ℤ◌, ◌*ℤ◌, ◌≤ℤ◌, ◌<ℤ◌, FitsSigned, to_z, of_z}
+use Rattle.std.proofs.Common.{◌≡◌, length}
 use Rattle.foundation.specs.Sums.{sum_to_int}
-use Rattle.sampling.specs.Category.{sum_in, product_in}
-use Rattle.sampling.specs.Units.{Added, Bounded, Within}
-use Rattle.sampling.specs.Records.{Inside}
+use Rattle.sampling.specs.declared.category.Category.{Category}
+use Rattle.sampling.specs.Category.{sum_in}
+use Rattle.sampling.proofs.Products.{products_of}
 use Rattle.sampling.proofs.unit.products.Given as goal
 
 abbrev pub invariant-loop-indicator : goal.invariant-loop-indicator
-invariant-loop-indicator l = ?
+invariant-loop-indicator l = (c : Category) → sum_in l.sums c ≡ sum_to_int (length l.yielded) (products_of l.indicator l.values l.raise l.lower c)
