@@ -8,6 +8,7 @@ ghost use Rattle.sampling.specs.Category.{sum_in};
 
 use crate::category::Category;
 use crate::unit::Unit;
+use std::array;
 
 // Parties 0 to 63, then the residual.
 pub const OWNERS: usize = 65;
@@ -33,91 +34,77 @@ fn part_of(unit: &Unit, used: u16, owner: u8, category: Category) -> i64
     average_of(unit.sums.of(category), used)
 }
 
-fn subtotal_of(units: &[Unit], used: u16, owner: u8, category: Category) -> i64
-    requires few { length units.now ≤ 256 }
-    requires bounded { Bounded 8064 units.now }
-    ensures { result ≡ subtotal (sampled units.now used) owner category }
-{
-    let mut sum = 0;
-    for unit in units {
-        sum += part_of(unit, used, owner, category);
-    }
-    sum
-}
-
-// Only a negative subtotal counts: f turns any other into 0.
-fn loss_of(units: &[Unit], used: u16, owner: u8, category: Category) -> u64
-    requires few { length units.now ≤ 256 }
-    requires bounded { Bounded 8064 units.now }
-    ensures value { result ≡ loss (subtotal (sampled units.now used) owner category) }
-    ensures bound { result ≤ 2 ^ 55 }
-{
-    let subtotal = subtotal_of(units, used, owner, category);
-    if subtotal < 0 {
-        subtotal.unsigned_abs()
-    } else {
-        0
-    }
-}
-
-fn weight_of(units: &[Unit], used: u16, owner: u8) -> u64
-    requires few { length units.now ≤ 256 }
-    requires bounded { Bounded 8064 units.now }
-    ensures value { result ≡ weight (sampled units.now used) owner }
-    ensures bound { result ≤ 2 ^ 57 }
-{
-    loss_of(units, used, owner, Category::RaiseNotEnabled)
-        + loss_of(units, used, owner, Category::RaiseEnabled)
-        + loss_of(units, used, owner, Category::LowerNotEnabled)
-        + loss_of(units, used, owner, Category::LowerEnabled)
-}
-
-// The weights of all owners, in order.
-pub(crate) fn weights_of(units: &[Unit], used: u16) -> [u64; 65]
-    requires few { length units.now ≤ 256 }
-    requires bounded { Bounded 8064 units.now }
-    ensures value { (o : ℕ) → o < 65 → listed result o ≡ weight (sampled units.now used) o }
-    ensures bound { (o : ℕ) → o < 65 → listed result o ≤ 2 ^ 57 }
-{
-    let mut weights = [0; 65];
-    for owner in 0..OWNERS {
-        weights[owner] = weight_of(units, used, owner as u8);
-    }
-    weights
-}
-
 pub(crate) fn all_zero(weights: &[u64]) -> bool
     ensures { result ≡ all_to (length weights.now) (λ k. nat_eq (listed weights.now k) 0) }
 {
-    for weight in weights {
-        if *weight != 0 {
-            return false;
-        }
-    }
-    true
+    weights.iter().all(|weight| *weight == 0)
 }
 
-fn owned_by(units: &[Unit], owner: u8) -> u16
-    requires { length units.now ≤ 256 }
-    ensures { result ≡ units_in (sampled units.now 0) owner }
-{
-    let mut count = 0;
-    for unit in units {
-        if unit.owner == owner {
-            count += 1;
-        }
-    }
-    count
+// What was summed of the units over so many intervals.
+#[derive(Clone, Copy)]
+pub(crate) struct Summed<'a> {
+    units: &'a [Unit],
+    used: u16,
+    ghost few: { length units.now ≤ 256 },
+    ghost bounded: { Bounded 8064 units.now },
 }
 
-// How many units each owner has.
-pub(crate) fn counts_of(units: &[Unit]) -> [u16; 65]
-    requires { length units.now ≤ 256 }
-    ensures { (o : ℕ) → o < 65 → listed result o ≡ units_in (sampled units.now 0) o }
-{
-    let mut counts = [0; 65];
-    for owner in 0..OWNERS {
-        counts[owner] = owned_by(units, owner as u8);
+impl<'a> Summed<'a> {
+    pub(crate) fn new(units: &'a [Unit], used: u16) -> Summed<'a>
+        requires few { length units.now ≤ 256 }
+        requires bounded { Bounded 8064 units.now }
+        ensures units { result.units.now ≡ units.now }
+        ensures used { result.used ≡ used }
+    {
+        Summed { units, used }
     }
-    counts
+
+    fn subtotal(&self, owner: u8, category: Category) -> i64
+        ensures { result ≡ subtotal (sampled self.now.units.now self.now.used) owner category }
+    {
+        let mut sum = 0;
+        for unit in self.units {
+            sum += part_of(unit, self.used, owner, category);
+        }
+        sum
+    }
+
+    // Only a negative subtotal counts: f turns any other into 0.
+    fn loss(&self, owner: u8, category: Category) -> u64
+        ensures value { result ≡ loss (subtotal (sampled self.now.units.now self.now.used) owner category) }
+        ensures bound { result ≤ 2 ^ 55 }
+    {
+        self.subtotal(owner, category).min(0).unsigned_abs()
+    }
+
+    fn weight(&self, owner: u8) -> u64
+        ensures value { result ≡ weight (sampled self.now.units.now self.now.used) owner }
+        ensures bound { result ≤ 2 ^ 57 }
+    {
+        self.loss(owner, Category::RaiseNotEnabled)
+            + self.loss(owner, Category::RaiseEnabled)
+            + self.loss(owner, Category::LowerNotEnabled)
+            + self.loss(owner, Category::LowerEnabled)
+    }
+
+    // The weights of all owners, in order.
+    pub(crate) fn weights(&self) -> [u64; OWNERS]
+        ensures value { (o : ℕ) → o < 65 → listed result o ≡ weight (sampled self.now.units.now self.now.used) o }
+        ensures bound { (o : ℕ) → o < 65 → listed result o ≤ 2 ^ 57 }
+    {
+        array::from_fn(|owner| self.weight(owner as u8))
+    }
+
+    fn owned_by(&self, owner: u8) -> u16
+        ensures { result ≡ units_in (sampled self.now.units.now 0) owner }
+    {
+        self.units.iter().filter(|unit| unit.owner == owner).count() as u16
+    }
+
+    // How many units each owner has.
+    pub(crate) fn counts(&self) -> [u16; OWNERS]
+        ensures { (o : ℕ) → o < 65 → listed result o ≡ units_in (sampled self.now.units.now 0) o }
+    {
+        array::from_fn(|owner| self.owned_by(owner as u8))
+    }
 }

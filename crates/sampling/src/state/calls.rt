@@ -15,7 +15,7 @@ use crate::category::{Category, Sums};
 use crate::check::check_interval;
 use crate::factors::Factors;
 use crate::unit::{Unit, add_products};
-use crate::weights::{all_zero, counts_of, weights_of};
+use crate::weights::{Summed, all_zero};
 use foundation::fault::{Fault, Layer, Refusal};
 use std::alloc::Global;
 
@@ -105,6 +105,13 @@ impl Sampling {
         Ok(())
     }
 
+    fn summed(&self) -> Summed<'_>
+        ensures units { result.units.now ≡ self.now.units.items }
+        ensures used { result.used ≡ self.now.used }
+    {
+        Summed::new(self.units.as_slice(), self.used)
+    }
+
     // Whether factors can be published, or why they would all be 0.
     pub fn ready(&self) -> Result<(), Fault>
         ensures answer { refusal result ≡ ready_fault (sampled self.now.units.items self.now.used) }
@@ -113,7 +120,7 @@ impl Sampling {
         if self.units.is_empty() || self.used == 0 {
             return Err(Layer::Samples.fault(Refusal::NothingSampled, 0));
         }
-        if all_zero(&weights_of(self.units.as_slice(), self.used)) {
+        if all_zero(&self.summed().weights()) {
             return Err(Layer::Samples.fault(Refusal::NoWeight, 0));
         }
         Ok(())
@@ -124,9 +131,8 @@ impl Sampling {
         ensures answer { Published (sampled self.units.items self.used) result }
         ensures law { (h : List Event) → Gone h self → Published (sampled_in h) result }
     {
-        let units = self.units.as_slice();
-        let weights = weights_of(units, self.used);
-        Factors::divided(&weights, counts_of(units))
+        let summed = self.summed();
+        Factors::divided(&summed.weights(), summed.counts())
     }
 
     // How many units are registered.

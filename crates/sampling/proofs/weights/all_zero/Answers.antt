@@ -1,13 +1,10 @@
-use Rattle.std.proofs.Common.{sym, arith, below_more}
-use Rattle.std.proofs.lemmas.Bool.Decides.{nat_tests}
-use Rattle.foundation.proofs.First.{all_to_all, all_to_bad}
+use Rattle.std.proofs.Common.{eqb, ◌∙◌, rules, tests}
+use Rattle.std.proofs.lemmas.Iterator.{YieldsList-from_slice}
+use Rattle.std.proofs.lemmas.Iterator.Search.{all_from_yields_List}
+use Rattle.foundation.proofs.Lists.{all_places}
 use Rattle.sampling.proofs.weights.all_zero.Goals as goal
 
-pub returns-then-weight-ne0 : goal.returns-then-weight-ne0
-returns-then-weight-ne0 c = sym (all_to_bad _ _ c.loop-weight.weight-index c.loop-weight-test.true (grind (arith, nat_tests)))
-
-pub loop-weight-preserved : goal.loop-weight-preserved
-loop-weight-preserved c = below_more _ _ c.loop-weight.invariant (grind (arith, nat_tests))
-
 pub returns : goal.returns
-returns c = sym (all_to_all _ _ (λ k h. c.loop-weight.invariant k (omega arith)))
+returns c =
+    all_from_yields_List (λ x. eqb x 0) _ _ _ c.all.ensures.ran (YieldsList-from_slice c.args.weights.now cc) (λ x b q h. search (rules, tests))
+    ∙ all_places (λ x. eqb x 0) c.args.weights.now 0

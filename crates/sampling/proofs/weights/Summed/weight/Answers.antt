@@ -1,6 +1,6 @@
 use Rattle.std.proofs.Common.{rules}
 use Rattle.sampling.specs.Weights.{weight}
-use Rattle.sampling.proofs.weights.weight_of.Goals as goal
+use Rattle.sampling.proofs.weights.Summed.weight.Goals as goal
 
 pub returns : goal.returns
 unfolding weight
