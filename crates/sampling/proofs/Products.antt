@@ -1,5 +1,5 @@
 -- What a sample adds to a category.
-use Rattle.std.proofs.Common.{◌≡◌, ℕ, suc, ◌+◌, ◌*◌, ◌≤◌, Bool, true, false, cond, List, length, get_or, ℤ, pos, ◌+ℤ◌, ◌*ℤ◌, nat_abs, Some, None, Option, sym, ap, ◌∙◌, mul-le-mul, add-one, arith}
+use Rattle.std.proofs.Common.{◌≡◌, ℕ, suc, ◌+◌, ◌*◌, ◌≤◌, Bool, true, false, cond, List, length, get_or, ℤ, pos, ◌+ℤ◌, ◌*ℤ◌, nat_abs, Some, None, Option, sym, ap, ◌∙◌, mul-le-mul, arith}
 use Rattle.foundation.specs.Sums.{sum_to_int}
 use Rattle.foundation.proofs.Sums.{sum_to_int_more, sum_to_int_abs}
 use Rattle.sampling.specs.Units.{Within}

@@ -62,8 +62,10 @@ fn check_indicator(sample: &Record, last: Option<SampleInterval>) -> Result<Samp
     ensures cases { refusal result ≡ indicator_fault sample.now.place (after last) (fields_of sample.now) }
     ensures value { IfOk result (λ i. i.number ≡ sample.now.interval) }
 {
-    let interval = SampleInterval::new(sample.interval)
-        .ok_or(Layer::Samples.fault(Refusal::OutOfRange, sample.place))?;
+    let interval = SampleInterval::new(sample.interval).ok_or(Layer::Samples.fault(
+        Refusal::OutOfRange,
+        sample.place,
+    ))?;
     if last.is_some_and(|used| interval <= used) {
         return Err(Layer::Samples.fault(Refusal::Repeated, sample.place));
     }

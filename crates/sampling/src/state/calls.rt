@@ -26,12 +26,10 @@ const RESIDUAL: u8 = 64;
 fn check_owners(owners: &[u8]) -> Result<(), Fault>
     ensures { refusal result ≡ owners_fault owners.now }
 {
-    for (unit, owner) in owners.iter().enumerate() {
-        if *owner > RESIDUAL {
-            return Err(Layer::Samples.fault(Refusal::OutOfRange, unit));
-        }
+    match owners.iter().position(|owner| *owner > RESIDUAL) {
+        Some(unit) => Err(Layer::Samples.fault(Refusal::OutOfRange, unit)),
+        None => Ok(()),
     }
-    Ok(())
 }
 
 fn check_registration(units: usize, owners: &[u8]) -> Result<(), Fault>

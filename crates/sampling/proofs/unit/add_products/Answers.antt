@@ -1,4 +1,4 @@
-use Rattle.std.proofs.Common.{◌≡◌, ◌/◌, ◌%◌, ◌<◌, eqb, length, ◌+ℤ◌, nat_abs, ap, ◌∙◌, arith, rules}
+use Rattle.std.proofs.Common.{◌/◌, ◌%◌, ◌<◌, eqb, length, ◌+ℤ◌, nat_abs, ap, ◌∙◌, arith, rules}
 use Rattle.sampling.specs.Units.{sum_at}
 use Rattle.sampling.proofs.Records.{held_first, held_after}
 use Rattle.sampling.proofs.Units.{none_done, one_more, within_held, added_held, added_bound}
@@ -35,9 +35,9 @@ loop-u-preserved c =
     let held = held_after _ _ _ c.loop-u.u _ c.as_chunks.ensures.front c.as_chunks.ensures.front_len (omega (arith, c.loop-u-test.true)) c.read-sample.ensures in
     let here : c.loop-u.u < length c.loop-u.units = omega (arith, c.loop-u-test.true, c.as_chunks.ensures.front_len, c.requires.inside.long, c.loop-u.auto.units) in
     one_more c.args.bytes.now c.args.units.now c.loop-u.units c.loop-u.u c.add_assign.new.self here c.loop-u.invariant
-        (λ d.
-        c.add_assign.ensures.after d
-        ∙ ap (λ z. sum_at c.loop-u.units c.loop-u.u d +ℤ z) (c.products-sums.ensures d ∙ added_held c.args.bytes.now c.loop-u.u d c.read-indicator.result c.read-sample.result _ _ first held (ap (λ n. eqb (n % 2) 1) held.enablement) (ap (λ n. eqb (n / 2 % 2) 1) held.enablement)))
+    (λ d.
+    c.add_assign.ensures.after d
+    ∙ ap (λ z. sum_at c.loop-u.units c.loop-u.u d +ℤ z) (c.products-sums.ensures d ∙ added_held c.args.bytes.now c.loop-u.u d c.read-indicator.result c.read-sample.result _ _ first held (ap (λ n. eqb (n % 2) 1) held.enablement) (ap (λ n. eqb (n / 2 % 2) 1) held.enablement)))
 
 pub returns : goal.returns
 returns c = record {

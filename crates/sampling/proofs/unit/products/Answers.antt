@@ -1,4 +1,4 @@
-use Rattle.std.proofs.Common.{◌≡◌, ℕ, ◌+◌, ◌<◌, length, get_or, pos, nat_abs, sym, ap, ◌∙◌, arith, w16, SFits, rules, length-append}
+use Rattle.std.proofs.Common.{◌≡◌, length, pos, nat_abs, sym, ap, ◌∙◌, arith, w16, SFits, rules, length-append}
 use Rattle.std.proofs.lemmas.Int.{to_z-of_z}
 use Rattle.std.proofs.lemmas.Slice.Zip.{zip_turn, zip_end}
 use Rattle.foundation.specs.Sums.{sum_to_int}

@@ -1,7 +1,7 @@
-use Rattle.std.proofs.Common.{◌≡◌, ℕ, ◌+◌, ◌*◌, ◌<◌, List, get_or, take, drop, pos, refl, sym, ap, ◌∙◌, arith, w16, to_z}
+use Rattle.std.proofs.Common.{◌≡◌, ℕ, ◌+◌, ◌*◌, ◌<◌, List, get_or, take, drop, refl, ap, ◌∙◌, arith, w16, to_z}
 use Rattle.std.proofs.lemmas.List.{get_or-take, get_or-drop}
 use Rattle.foundation.specs.Bytes.{number_at}
-use Rattle.sampling.specs.Records.{Holds, IsRecord}
+use Rattle.sampling.specs.Records.{IsRecord}
 use Rattle.sampling.proofs.reader.Record.read.Goals as goal
 
 -- a number in a record's bytes, and where it stands

@@ -1,4 +1,4 @@
-use Rattle.std.proofs.Common.{vec_items, ap, ◌∙◌}
+use Rattle.std.proofs.Common.{◌≡◌, vec_items, refl, ap, ◌∙◌}
 use Rattle.foundation.specs.Sums.{listed}
 use Rattle.sampling.specs.Units.{sampled}
 use Rattle.sampling.specs.Weights.{units_in, weight}
@@ -8,10 +8,10 @@ use Rattle.sampling.proofs.state.Sampling.publish.Goals as goal
 
 pub returns : goal.returns
 returns c =
-    let same = c.as_slice-units.ensures.value in
+    let same : sampled c.summed-summed.result.units.now c.summed-summed.result.used ≡ sampled (vec_items c.args.self.units) c.args.self.used = rw (c.summed-summed.ensures.units, c.summed-summed.ensures.used) refl in
     let all =
-    published (vec_items c.args.self.units) c.args.self.used c.weights_of-weights.result c.divided.result
-    (λ o l. c.weights_of-weights.ensures.value o l ∙ ap (λ us. weight (sampled us c.args.self.used) o) same)
+    published (vec_items c.args.self.units) c.args.self.used c.weights.result c.divided.result
+    (λ o l. c.weights.ensures.value o l ∙ ap (λ s. weight s o) same)
     c.divided.ensures.factors
-    (λ o l. ap (λ us. listed us o) c.divided.ensures.units ∙ c.counts_of.ensures o l ∙ ap (λ us. units_in (sampled us 0) o) same) in
+    (λ o l. ap (λ us. listed us o) c.divided.ensures.units ∙ c.counts.ensures o l ∙ ap (λ us. units_in (sampled us 0) o) c.summed-summed.ensures.units) in
     record { answer = all; law = λ h g. published_same _ _ c.divided.result (gone_same h c.args.self g) all }

@@ -1,17 +1,28 @@
-use Rattle.std.proofs.Common.{◌≡◌, leb, Some, sym, arith, below_more}
+use Rattle.std.proofs.Common.{◌≡◌, ℕ, cond, leb, ltb, List, length, get_or, Some, None, sym, ap, ◌∙◌, arith, rules, tests}
+use Rattle.std.proofs.lemmas.Iterator.{YieldsList-from_slice}
+use Rattle.std.proofs.lemmas.Iterator.Search.{position_from_yields_List}
 use Rattle.std.proofs.lemmas.Bool.Decides.{nat_tests}
-use Rattle.foundation.proofs.First.{first_to_all, first_to_at}
-use Rattle.foundation.specs.Sums.{listed}
+use Rattle.std.specs.List.{position}
+use Rattle.std.specs.Option.{option_map}
+use Rattle.foundation.proofs.First.{first_to_eq}
+use Rattle.foundation.proofs.Lists.{position_places}
 use Rattle.sampling.specs.Interval.{in_samples, unless}
+use Rattle.sampling.specs.Registration.{owners_fault}
 use Rattle.sampling.proofs.state.calls.check_owners.Goals as goal
 
-pub returns-then-owner-gt-RESIDUAL : goal.returns-then-owner-gt-RESIDUAL
-returns-then-owner-gt-RESIDUAL c =
-    let bad : unless (leb (listed c.args.owners.now c.loop-unit.unit) 64) 2 c.loop-unit.unit ≡ Some (in_samples 2 c.loop-unit.unit) = grind (arith, nat_tests) in
-    rw c.samples_fault.ensures (sym (first_to_at _ _ c.loop-unit.unit _ c.loop-unit-test.true c.loop-unit.invariant bad))
+above : (owner u : ℕ) → cond (ltb 64 owner) (Some (in_samples 2 u)) None ≡ unless (leb owner 64) 2 u
+above owner u = grind (arith, nat_tests)
 
-pub loop-unit-preserved : goal.loop-unit-preserved
-loop-unit-preserved c = below_more _ _ c.loop-unit.invariant (grind (arith, nat_tests))
+-- the first owner that is above the residual
+found : (owners : List ℕ) → option_map (in_samples 2) (position (ltb 64) owners) ≡ owners_fault owners
+found owners = position_places (ltb 64) (in_samples 2) owners 0 ∙ first_to_eq (length owners) _ _ (λ u l. above (get_or owners u 0) u)
 
-pub returns : goal.returns
-returns c = sym (first_to_all _ _ (λ k h. c.loop-unit.invariant k (omega arith)))
+pub returns-in-Some : goal.returns-in-Some
+returns-in-Some c =
+    let first : c.position.result ≡ position (ltb 64) c.args.owners.now = position_from_yields_List (ltb 64) _ _ c.position.result c.position.ensures.ran (YieldsList-from_slice c.args.owners.now cc) (λ x b q h. search (rules, tests)) in
+    rw c.fault.ensures (ap (option_map (in_samples 2)) (sym c.in-Some.is ∙ first) ∙ found c.args.owners.now)
+
+pub returns-in-None : goal.returns-in-None
+returns-in-None c =
+    let first : c.position.result ≡ position (ltb 64) c.args.owners.now = position_from_yields_List (ltb 64) _ _ c.position.result c.position.ensures.ran (YieldsList-from_slice c.args.owners.now cc) (λ x b q h. search (rules, tests)) in
+    ap (option_map (in_samples 2)) (sym c.in-None.is ∙ first) ∙ found c.args.owners.now
