@@ -103,13 +103,6 @@ impl Sampling {
         Ok(())
     }
 
-    fn summed(&self) -> Summed<'_>
-        ensures units { result.units.now ≡ self.now.units.items }
-        ensures used { result.used ≡ self.now.used }
-    {
-        Summed::new(self.units.as_slice(), self.used)
-    }
-
     // Whether factors can be published, or why they would all be 0.
     pub fn ready(&self) -> Result<(), Fault>
         ensures answer { refusal result ≡ ready_fault (sampled self.now.units.items self.now.used) }
@@ -118,7 +111,7 @@ impl Sampling {
         if self.units.is_empty() || self.used == 0 {
             return Err(Layer::Samples.fault(Refusal::NothingSampled, 0));
         }
-        if all_zero(&self.summed().weights()) {
+        if all_zero(&Summed::new(self.units.as_slice(), self.used).weights()) {
             return Err(Layer::Samples.fault(Refusal::NoWeight, 0));
         }
         Ok(())
@@ -129,7 +122,7 @@ impl Sampling {
         ensures answer { Published (sampled self.units.items self.used) result }
         ensures law { (h : List Event) → Gone h self → Published (sampled_in h) result }
     {
-        let summed = self.summed();
+        let summed = Summed::new(self.units.as_slice(), self.used);
         Factors::divided(&summed.weights(), summed.counts())
     }
 

@@ -19,14 +19,14 @@ returns-then-is_empty c =
 
 pub returns-then-all_zero : goal.returns-then-all_zero
 returns-then-all_zero c =
-    let same : sampled c.summed.result.units.now c.summed.result.used ≡ sampled (vec_items c.args.self.now.units) c.args.self.now.used = rw (c.summed.ensures.units, c.summed.ensures.used) refl in
+    let same : sampled c.new.result.units.now c.new.result.used ≡ sampled (vec_items c.args.self.now.units) c.args.self.now.used = rw (c.new.ensures.units, c.as_slice.ensures.value, c.new.ensures.used) refl in
     let long : length c.weights.result ≡ 65 = search rules in
     let fault = no_weight (vec_items c.args.self.now.units) c.args.self.now.used c.weights.result (λ e. false-eqb (vec_len c.args.self.now.units) 0 c.if-is_empty.ensures (omega (arith, c.args.self.now.units.ok.0, e))) c.if-self-eq0.false long (λ o l. c.weights.ensures.value o l ∙ ap (λ s. weight s o) same) c.if-all_zero.ensures in
     rw c.fault-then-all_zero.ensures (record { answer = fault; law = λ h g. fault ∙ ready_same _ _ (gone_same h c.args.self.now g) })
 
 pub returns : goal.returns
 returns c =
-    let same : sampled c.summed.result.units.now c.summed.result.used ≡ sampled (vec_items c.args.self.now.units) c.args.self.now.used = rw (c.summed.ensures.units, c.summed.ensures.used) refl in
+    let same : sampled c.new.result.units.now c.new.result.used ≡ sampled (vec_items c.args.self.now.units) c.args.self.now.used = rw (c.new.ensures.units, c.as_slice.ensures.value, c.new.ensures.used) refl in
     let long : length c.weights.result ≡ 65 = search rules in
     let fault = some_weight (vec_items c.args.self.now.units) c.args.self.now.used c.weights.result (λ e. false-eqb (vec_len c.args.self.now.units) 0 c.if-is_empty.ensures (omega (arith, c.args.self.now.units.ok.0, e))) c.if-self-eq0.false long (λ o l. c.weights.ensures.value o l ∙ ap (λ s. weight s o) same) c.if-all_zero.ensures in
     record { answer = fault; law = λ h g. fault ∙ ready_same _ _ (gone_same h c.args.self.now g) }
