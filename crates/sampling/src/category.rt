@@ -2,6 +2,7 @@
 ghost use Rattle.std.specs.Prelude.{◌≡◌, ◌^◌, ◌≤◌, pos, ◌+ℤ◌, if◌then◌else◌, unsigned_abs};
 ghost use Rattle.sampling.specs.Category.{category_of, product_in, same, sum_in, Small};
 
+use std::cmp::Ordering;
 use std::ops::AddAssign;
 
 // By the service that the frequency calls for, raise or lower, and whether the unit is enabled for it: in the order of the
@@ -19,20 +20,12 @@ impl Category {
     pub fn of(indicator: i16, raise: bool, lower: bool) -> Option<Category>
         ensures { result ≡ category_of indicator raise lower }
     {
-        if indicator > 0 {
-            if raise {
-                Some(Category::RaiseEnabled)
-            } else {
-                Some(Category::RaiseNotEnabled)
-            }
-        } else if indicator < 0 {
-            if lower {
-                Some(Category::LowerEnabled)
-            } else {
-                Some(Category::LowerNotEnabled)
-            }
-        } else {
-            None
+        match indicator.cmp(&0) {
+            Ordering::Greater if raise => Some(Category::RaiseEnabled),
+            Ordering::Greater => Some(Category::RaiseNotEnabled),
+            Ordering::Less if lower => Some(Category::LowerEnabled),
+            Ordering::Less => Some(Category::LowerNotEnabled),
+            Ordering::Equal => None,
         }
     }
 }

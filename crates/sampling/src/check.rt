@@ -42,16 +42,14 @@ fn check_values(values: &[i16], limit: u16, place: usize) -> Result<(), Fault>
 }
 
 // The fields after the interval, in the order of their bytes.
+#[tactic(auto, unfolding(crate::specs::Interval::fields_fault))]
 fn check_fields(sample: &Record, unit: u16, enablements: u8, limit: u16) -> Result<(), Fault>
     ensures { refusal result ≡ fields_fault sample.now.place unit enablements limit (fields_of sample.now) }
 {
     if sample.unit != unit {
         return Err(Layer::Samples.fault(Refusal::UnexpectedUnit, sample.place));
     }
-    if sample.enablement > enablements {
-        return Err(Layer::Samples.fault(Refusal::OutOfRange, sample.place));
-    }
-    if sample.zero != 0 {
+    if sample.enablement > enablements || sample.zero != 0 {
         return Err(Layer::Samples.fault(Refusal::OutOfRange, sample.place));
     }
     check_values(&sample.values, limit, sample.place)

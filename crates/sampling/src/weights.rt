@@ -77,6 +77,7 @@ impl<'a> Summed<'a> {
         self.subtotal(owner, category).min(0).unsigned_abs()
     }
 
+    #[tactic(auto, unfolding(crate::specs::Weights::weight))]
     fn weight(&self, owner: u8) -> u64
         ensures value { result ≡ weight (sampled self.now.units.now self.now.used) owner }
         ensures bound { result ≤ 2 ^ 57 }

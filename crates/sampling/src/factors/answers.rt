@@ -52,9 +52,6 @@ impl Factors {
     pub fn units(&self, owner: u16) -> u16
         ensures { result ≡ owned_by self.now owner }
     {
-        if owner > PARTIES {
-            return 0;
-        }
-        self.units[owner as usize]
+        self.units.get(owner as usize).copied().unwrap_or(0)
     }
 }

@@ -32,6 +32,7 @@ fn check_owners(owners: &[u8]) -> Result<(), Fault>
     }
 }
 
+#[tactic(auto, unfolding(crate::specs::Registration::registration_fault))]
 fn check_registration(units: usize, owners: &[u8]) -> Result<(), Fault>
     ensures { refusal result ≡ registration_fault units owners.now }
 {
@@ -147,9 +148,8 @@ impl Sampling {
         ensures answer { result ≡ sum_at self.now.units.items unit category }
         ensures law { (h : List Event) → Gone h self.now → unit < length (owners_in h) → result ≡ total_in (accepted h) unit category }
     {
-        if unit >= self.units.len() {
-            return 0;
-        }
-        self.units[unit].sums.of(category)
+        self.units
+            .get(unit)
+            .map_or(0, |unit| unit.sums.of(category))
     }
 }
