@@ -2,7 +2,8 @@
 use Rattle.std.proofs.Common.{◌≡◌, ℕ, zero, suc, ◌+◌, ◌*◌, ◌/◌, ◌%◌, ◌^◌, ◌<◌, ◌≤◌, List, ◌++◌, length, get_or, set, replicate, ℤ, pos, sym, refl, ap, ◌∙◌, arith, w16, SFits, to_z, of_z}
 use Rattle.std.proofs.lemmas.List.{get_or-append-add, get_or_append_left, get_or_past, get_or-set_same, get_or-set_other, length-set}
 use Rattle.std.proofs.lemmas.Int.{to_z-of_z}
-use Rattle.sampling.specs.Records.{Fields, number_at}
+use Rattle.foundation.specs.Bytes.{number_at}
+use Rattle.sampling.specs.Records.{Fields}
 use Rattle.figures.specs.Samples.{Shows}
 
 -- a number put at a place, high byte first

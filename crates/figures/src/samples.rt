@@ -1,6 +1,6 @@
 // The bytes of sample intervals. Two of the 75 samples serve every figure; the others are 0, where nothing counts.
 ghost use Rattle.std.specs.Prelude.{◌≡◌, ℕ, ◌+◌, ◌<◌, ◌≤◌, length, IfOk, ◌≢◌, slice_index};
-ghost use Rattle.sampling.specs.Records.{number_at};
+ghost use Rattle.foundation.specs.Bytes.{number_at};
 ghost use Rattle.figures.specs.Samples.{Encodes, Shows, fields_from};
 
 use sampling::reader::RECORD_BYTES;

@@ -81,6 +81,7 @@ fn check_unit(sample: &Record, interval: SampleInterval, unit: u16) -> Result<()
 }
 
 // The interval that the bytes hold for so many units, or the first fault of its records.
+#[tactic(auto, unfolding(crate::specs::Interval::interval_fault))]
 pub(crate) fn check_interval(
     bytes: &[u8],
     units: usize,

@@ -1,13 +1,8 @@
-use Rattle.std.proofs.Common.{get_or, pos, sym, arith, w16, SFits, rules, below_more}
+use Rattle.std.proofs.Common.{get_or, pos, sym, arith, w16, SFits, rules}
 use Rattle.std.proofs.lemmas.Result.{err_from_is_err_and}
 use Rattle.std.proofs.lemmas.Int.{to_z-of_z}
 use Rattle.foundation.proofs.First.{first_to_all, first_to_at}
 use Rattle.sampling.proofs.check.check_values.Goals as goal
-
-pub loop-value-preserved : goal.loop-value-preserved
-loop-value-preserved c =
-    let fits : SFits w16 (get_or c.args.values.now c.loop-value.value-index (pos 0)) = search rules in
-    below_more _ _ c.loop-value.invariant (sym (simp to_z-of_z at c.in_ok-check_value.ensures))
 
 pub returns-in_err-check_value : goal.returns-in_err-check_value
 returns-in_err-check_value c =

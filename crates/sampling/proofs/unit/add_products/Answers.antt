@@ -1,11 +1,8 @@
 use Rattle.std.proofs.Common.{◌/◌, ◌%◌, ◌<◌, eqb, length, ◌+ℤ◌, nat_abs, ap, ◌∙◌, arith, rules}
 use Rattle.sampling.specs.Units.{sum_at}
 use Rattle.sampling.proofs.Records.{held_first, held_after}
-use Rattle.sampling.proofs.Units.{none_done, one_more, within_held, added_held, added_bound}
+use Rattle.sampling.proofs.Units.{one_more, within_held, added_held, added_bound}
 use Rattle.sampling.proofs.unit.add_products.Goals as goal
-
-pub loop-u-init : goal.loop-u-init
-loop-u-init c = none_done _ _
 
 pub products-sums-requires : goal.products-sums-requires
 products-sums-requires c =
@@ -38,10 +35,3 @@ loop-u-preserved c =
     (λ d.
     c.add_assign.ensures.after d
     ∙ ap (λ z. sum_at c.loop-u.units c.loop-u.u d +ℤ z) (c.products-sums.ensures d ∙ added_held c.args.bytes.now c.loop-u.u d c.read-indicator.result c.read-sample.result _ _ first held (ap (λ n. eqb (n % 2) 1) held.enablement) (ap (λ n. eqb (n / 2 % 2) 1) held.enablement)))
-
-pub returns : goal.returns
-returns c = record {
-  many = c.loop-u.auto.units;
-  owners = c.loop-u.invariant.owners;
-  sums = λ u d l. c.loop-u.invariant.done u d (omega (arith, c.loop-u-test.false, c.as_chunks.ensures.front_len, c.requires.inside.long));
-}

@@ -1,13 +1,12 @@
 use Rattle.std.proofs.Common.{◌≡◌, length, pos, nat_abs, sym, ap, ◌∙◌, arith, w16, SFits, rules, length-append}
 use Rattle.std.proofs.lemmas.Int.{to_z-of_z}
-use Rattle.std.proofs.lemmas.Slice.Zip.{zip_turn, zip_end}
-use Rattle.foundation.specs.Sums.{sum_to_int}
+use Rattle.std.proofs.lemmas.Slice.Zip.{zip_turn}
 use Rattle.foundation.proofs.Sums.{sum_to_int_none}
 use Rattle.sampling.specs.declared.category.Category.{Category}
 use Rattle.sampling.specs.declared.category.Category.TheVariants.{RaiseNotEnabled, RaiseEnabled, LowerNotEnabled, LowerEnabled}
 use Rattle.sampling.specs.declared.category.Sums.{Sums}
 use Rattle.sampling.specs.Category.{sum_in}
-use Rattle.sampling.proofs.Products.{products_of, products_bound, products_more}
+use Rattle.sampling.proofs.Products.{products_bound, products_more}
 use Rattle.sampling.proofs.unit.products.Goals as goal
 
 none_summed : (s : Sums) → (s.raise_not_enabled ≡ pos 0) × ((s.raise_enabled ≡ pos 0) × ((s.lower_not_enabled ≡ pos 0) × (s.lower_enabled ≡ pos 0))) → (c : Category) → sum_in s c ≡ pos 0
@@ -37,11 +36,3 @@ loop-indicator-preserved c = λ d.
     let f : SFits w16 c.in-Some.indicator.now = search rules in
     let g : SFits w16 c.in-Some.value.now = search rules in
     products_more c.args.indicator.now c.args.values.now c.args.raise c.args.lower d (length c.loop-indicator.yielded) _ c.in-Some.indicator.now c.in-Some.value.now _ _ (turn.2 (pos 0)) (turn.3 (pos 0)) (length-append c.loop-indicator.yielded _) (c.loop-indicator.invariant d) (simp to_z-of_z at (c.count.ensures d))
-
-pub returns : goal.returns
-returns c = λ d.
-    let begin = c.into_iter-indicator-iterator.ensures.into_iter_gives in
-    let indicators = ap (λ z. z.a.rest.now) begin ∙ ap (λ i. i.rest.now) c.zip-indicator-items.ensures.first ∙ c.iter.ensures.rest in
-    let deviations = ap (λ z. z.b.rest.now) begin ∙ c.zip-indicator-items.ensures.second.0 in
-    let all = zip_end c.args.indicator.now c.args.values.now c.loop-indicator.yielded c.into_iter-indicator-iterator.result c.loop-indicator.indicator-iterator c.next.new.self c.next.result indicators deviations c.loop-indicator.yielded_by c.in-None.is c.next.ensures.steps in
-    c.loop-indicator.invariant d ∙ ap (λ n. sum_to_int n (products_of c.args.indicator.now c.args.values.now c.args.raise c.args.lower d)) (omega (arith, all, c.told-indicator, c.told-values))

@@ -9,9 +9,6 @@ use Rattle.sampling.proofs.weights.Summed.subtotal.Goals as goal
 pub loop-unit-init : goal.loop-unit-init
 loop-unit-init c = sym (sum_to_int_none (parts_of c.args.self.now.units.now c.args.self.now.used c.args.owner c.args.category))
 
-pub part_of-sum-requires : goal.part_of-sum-requires
-part_of-sum-requires c = omega (arith, c.args.self.now.bounded c.loop-unit.unit-index c.args.category)
-
 small : (c : goal.After-part_of-sum) → (nat_abs (to_z w64 c.loop-unit.sum-bits) ≤ 2 ^ 60) × (nat_abs c.part_of-sum.result ≤ 2 ^ 60)
 small c = (
   omega (arith, ap nat_abs c.loop-unit.invariant, parts_bound c.args.self.now.units.now c.args.self.now.used c.args.owner c.args.category c.loop-unit.unit-index c.args.self.now.bounded, c.args.self.now.few),
