@@ -13,7 +13,7 @@ use Rattle.sampling.specs.declared.factors.Factors.{Factors}
 use Rattle.sampling.specs.declared.state.Sampling.{Sampling}
 use Rattle.sampling.specs.Accepted.{meets}
 use Rattle.sampling.specs.Factors.{Published}
-use Rattle.sampling.specs.History.{Event, Gone, registered, unregistered, offered, owners_in, accepted, next, total_in, sampled_in}
+use Rattle.sampling.specs.History.{Event, Gone, registered, offered, owners_in, accepted, next, total_in, sampled_in}
 use Rattle.sampling.specs.Interval.{after, in_samples, interval_fault}
 use Rattle.sampling.specs.Records.{interval_at}
 use Rattle.sampling.specs.Registration.{registration_fault}
@@ -22,9 +22,6 @@ use Rattle.sampling.specs.Weights.{Sampled, part, subtotal, loss, weight, units_
 use Rattle.sampling.proofs.Accepted.{silent_interval, some_units}
 use Rattle.sampling.proofs.Registration.{none_before}
 use Rattle.sampling.proofs.Units.{new_at, new_sum}
-
-pub gone_unregistered : (h : List Event) (s : Sampling) → Gone h s → Gone (unregistered ∷ h) s
-gone_unregistered h s g = record { many = g.many; owners = g.owners; count = g.count; last = g.last; sums = g.sums; idle = g.idle }
 
 pub gone_registered : (h : List Event) (s t : Sampling) (os : List ℕ) → Gone h s → registration_fault (vec_len s.units) os ≡ None → vec_items t.units ≡ map new_unit os → t.used ≡ s.used → t.last ≡ s.last → Gone (registered os ∷ h) t
 gone_registered h s t os g none new used last =

@@ -15,7 +15,7 @@ pub product_none : (c : Category) (i : ℤ) (raise lower : Bool) (v : ℤ) → c
 unfolding product_in
 product_none c i raise lower v e = ap (λ o. counted c o (v *ℤ i)) e
 
-cond_bound : (t : Bool) (x : ℤ) (m : ℕ) → nat_abs x ≤ m → nat_abs (cond t x (pos 0)) ≤ m
+pub cond_bound : (t : Bool) (x : ℤ) (m : ℕ) → nat_abs x ≤ m → nat_abs (cond t x (pos 0)) ≤ m
 cond_bound true x m h = h
 cond_bound false x m h = omega arith
 

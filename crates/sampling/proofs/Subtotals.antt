@@ -1,23 +1,18 @@
 -- Bounds and laws of subtotals and weights.
-use Rattle.std.proofs.Common.{◌≡◌, ℕ, suc, ◌+◌, ◌*◌, ◌/◌, ◌^◌, ◌<◌, ◌≤◌, Bool, true, false, cond, eqb, List, length, set, ℤ, pos, negsuc, nat_abs, ◌<ℤ◌, refl, ap, ◌∙◌, div-le_self, arith}
+use Rattle.std.proofs.Common.{◌≡◌, ℕ, suc, ◌+◌, ◌*◌, ◌/◌, ◌^◌, ◌<◌, ◌≤◌, eqb, List, length, set, ℤ, pos, negsuc, nat_abs, refl, ap, ◌∙◌, div-le_self, arith}
 use Rattle.std.proofs.lemmas.List.Edits.{fill_by_more}
-use Rattle.std.proofs.lemmas.Int.{ints}
 use Rattle.foundation.specs.Sums.{listed, sum_to_int}
 use Rattle.foundation.proofs.Sums.{sum_to_int_abs}
 use Rattle.sampling.specs.declared.category.Category.{Category}
-use Rattle.sampling.specs.declared.category.Category.TheVariants.{RaiseNotEnabled, RaiseEnabled, LowerNotEnabled, LowerEnabled}
 use Rattle.sampling.specs.declared.unit.Unit.{Unit}
 use Rattle.sampling.specs.Units.{Bounded, owner_at, sum_at, sampled}
-use Rattle.sampling.specs.Weights.{Sampled, average, part, subtotal, loss, weight_of, weight}
+use Rattle.sampling.specs.Weights.{average, part, subtotal, loss}
+use Rattle.sampling.proofs.Products.{cond_bound}
 use Rattle.foundation.proofs.Signed.{nat_abs_neg}
 
 average_bound : (z : ℤ) (n : ℕ) → nat_abs (average z n) ≤ nat_abs z
 average_bound (pos a) n = div-le_self a n
 average_bound (negsuc a) n = omega (arith, nat_abs_neg (suc a / n), div-le_self (suc a) n)
-
-cond_bound : (t : Bool) (z : ℤ) (m : ℕ) → nat_abs z ≤ m → nat_abs (cond t z (pos 0)) ≤ m
-cond_bound true z m h = h
-cond_bound false z m h = omega arith
 
 pub part_bound : (owner o : ℕ) (z : ℤ) (used m : ℕ) → nat_abs z ≤ m → nat_abs (part owner o z used) ≤ m
 part_bound owner o z used m h = cond_bound (eqb owner o) (average z used) m (omega (arith, average_bound z used))
@@ -40,25 +35,6 @@ subtotal_is us used o c = refl
 pub loss_most : (us : List Unit) (used o : ℕ) (c : Category) → length us ≤ 256 → Bounded 8064 us → loss (subtotal (sampled us used) o c) ≤ 2 ^ 55
 loss_most us used o c few h =
     omega (arith, loss_bound (subtotal (sampled us used) o c), ap nat_abs (subtotal_is us used o c), parts_bound us used o c (length us) h)
-
-pub weight_is : (f : Sampled) (o : ℕ) → weight f o ≡ weight_of (subtotal f o)
-unfolding weight
-weight_is f o = refl
-
-pub weight_most : (us : List Unit) (used o : ℕ) → length us ≤ 256 → Bounded 8064 us → weight (sampled us used) o ≤ 2 ^ 57
-weight_most us used o few h =
-    omega (
-      arith,
-      weight_is (sampled us used) o,
-      loss_most us used o RaiseNotEnabled few h,
-      loss_most us used o RaiseEnabled few h,
-      loss_most us used o LowerNotEnabled few h,
-      loss_most us used o LowerEnabled few h,
-    )
-
-pub loss_negative : (z : ℤ) → z <ℤ pos 0 → nat_abs z ≡ loss z
-loss_negative (pos n) h = absurd (omega (arith, ints))
-loss_negative (negsuc n) h = refl
 
 -- a table that is filled place by place
 pub filled : (f : ℕ → ℕ) (xs : List ℕ) (n v : ℕ) → n < length xs → v ≡ f n → ((o : ℕ) → o < n → listed xs o ≡ f o) → (o : ℕ) → o < n + 1 → listed (set xs n v) o ≡ f o

@@ -34,9 +34,6 @@ pub record Sofar (b : List ℕ) (before us : List Unit) (u : ℕ) : Type 0 where
   pub done : (v : ℕ) (c : Category) → v < u → sum_at us v c ≡ sum_at before v c +ℤ added_by b v c
   pub rest : (v : ℕ) (c : Category) → u ≤ v → sum_at us v c ≡ sum_at before v c
 
-pub none_done : (b : List ℕ) (us : List Unit) → Sofar b us us 0
-none_done b us = record { owners = λ v. refl; done = λ v c l. absurd (omega arith); rest = λ v c l. refl }
-
 pub one_more : (b : List ℕ) (before us : List Unit) (u : ℕ) (s : Sums) → u < length us → Sofar b before us u → ((c : Category) → sum_in s c ≡ sum_at us u c +ℤ added_by b u c) → Sofar b before (set us u (record { owner = owner_at us u; sums = s })) (u + 1)
 one_more b before us u s l h e =
     let new : Unit = record { owner = owner_at us u; sums = s } in

@@ -1,408 +1,100 @@
 use foundation::fault::Fault;
 use sampling::category::Category;
+use sampling::reader::RECORD_BYTES;
 use sampling::state::Sampling;
 use std::alloc::{AllocError, Global};
 use std::process::Abort;
 use std::test::Fail;
 
-// Two bytes, big-endian, at a place of an interval's bytes.
+// Two bytes, big-endian, of an interval's bytes: their place and their value.
 #[derive(Clone, Copy)]
-struct Edit {
-    at: usize,
-    value: u16,
-}
+struct Edit(usize, u16);
 
-// An interval that is good but for two edits, and how it is refused.
+// An interval that is good but for an edit or two, and the number and the place of its refusal.
 #[derive(Clone, Copy)]
-struct Case {
-    first: Edit,
-    second: Edit,
-    number: u8,
-    place: usize,
-}
-
-const UNITS: usize = 3;
-
-const RECORD: usize = 156;
-
-// The edit that changes nothing: it lies past the end.
-const NONE: Edit = Edit {
-    at: 1_000_000,
-    value: 0,
-};
+struct Case(Edit, Option<Edit>, u8, usize);
 
 const CASES: [Case; 38] = [
     // the first record's interval: above the period, equal to the last used one, below it
-    Case {
-        first: Edit { at: 0, value: 8064 },
-        second: NONE,
-        number: 2,
-        place: 0,
-    },
-    Case {
-        first: Edit {
-            at: 0,
-            value: 65535,
-        },
-        second: NONE,
-        number: 2,
-        place: 0,
-    },
-    Case {
-        first: Edit { at: 0, value: 5 },
-        second: NONE,
-        number: 4,
-        place: 0,
-    },
-    Case {
-        first: Edit { at: 0, value: 4 },
-        second: NONE,
-        number: 4,
-        place: 0,
-    },
+    Case(Edit(0, 8064), None, 2, 0),
+    Case(Edit(0, 65535), None, 2, 0),
+    Case(Edit(0, 5), None, 4, 0),
+    Case(Edit(0, 4), None, 4, 0),
     // a later record's interval
-    Case {
-        first: Edit { at: 156, value: 11 },
-        second: NONE,
-        number: 2,
-        place: 1,
-    },
-    Case {
-        first: Edit { at: 468, value: 9 },
-        second: NONE,
-        number: 2,
-        place: 3,
-    },
+    Case(Edit(156, 11), None, 2, 1),
+    Case(Edit(468, 9), None, 2, 3),
     // unit numbers
-    Case {
-        first: Edit { at: 2, value: 0 },
-        second: NONE,
-        number: 5,
-        place: 0,
-    },
-    Case {
-        first: Edit {
-            at: 158,
-            value: 65535,
-        },
-        second: NONE,
-        number: 5,
-        place: 1,
-    },
-    Case {
-        first: Edit { at: 314, value: 2 },
-        second: NONE,
-        number: 5,
-        place: 2,
-    },
-    Case {
-        first: Edit { at: 470, value: 3 },
-        second: NONE,
-        number: 5,
-        place: 3,
-    },
+    Case(Edit(2, 0), None, 5, 0),
+    Case(Edit(158, 65535), None, 5, 1),
+    Case(Edit(314, 2), None, 5, 2),
+    Case(Edit(470, 3), None, 5, 3),
     // enablement and the zero byte
-    Case {
-        first: Edit { at: 4, value: 256 },
-        second: NONE,
-        number: 2,
-        place: 0,
-    },
-    Case {
-        first: Edit { at: 4, value: 1 },
-        second: NONE,
-        number: 2,
-        place: 0,
-    },
-    Case {
-        first: Edit {
-            at: 160,
-            value: 1024,
-        },
-        second: NONE,
-        number: 2,
-        place: 1,
-    },
-    Case {
-        first: Edit {
-            at: 316,
-            value: 65280,
-        },
-        second: NONE,
-        number: 2,
-        place: 2,
-    },
-    Case {
-        first: Edit {
-            at: 472,
-            value: 255,
-        },
-        second: NONE,
-        number: 2,
-        place: 3,
-    },
+    Case(Edit(4, 256), None, 2, 0),
+    Case(Edit(4, 1), None, 2, 0),
+    Case(Edit(160, 1024), None, 2, 1),
+    Case(Edit(316, 65280), None, 2, 2),
+    Case(Edit(472, 255), None, 2, 3),
     // the frequency indicator's values: the mark, and one past the range at the first and the last
-    Case {
-        first: Edit {
-            at: 6,
-            value: 32768,
-        },
-        second: NONE,
-        number: 3,
-        place: 0,
-    },
-    Case {
-        first: Edit {
-            at: 154,
-            value: 32768,
-        },
-        second: NONE,
-        number: 3,
-        place: 0,
-    },
-    Case {
-        first: Edit { at: 6, value: 1561 },
-        second: NONE,
-        number: 2,
-        place: 0,
-    },
-    Case {
-        first: Edit {
-            at: 154,
-            value: 63975,
-        },
-        second: NONE,
-        number: 2,
-        place: 0,
-    },
+    Case(Edit(6, 32768), None, 3, 0),
+    Case(Edit(154, 32768), None, 3, 0),
+    Case(Edit(6, 1561), None, 2, 0),
+    Case(Edit(154, 63975), None, 2, 0),
     // a unit's values
-    Case {
-        first: Edit {
-            at: 162,
-            value: 32768,
-        },
-        second: NONE,
-        number: 3,
-        place: 1,
-    },
-    Case {
-        first: Edit {
-            at: 392,
-            value: 32768,
-        },
-        second: NONE,
-        number: 3,
-        place: 2,
-    },
-    Case {
-        first: Edit {
-            at: 622,
-            value: 32768,
-        },
-        second: NONE,
-        number: 3,
-        place: 3,
-    },
-    Case {
-        first: Edit {
-            at: 162,
-            value: 20001,
-        },
-        second: NONE,
-        number: 2,
-        place: 1,
-    },
-    Case {
-        first: Edit {
-            at: 622,
-            value: 45535,
-        },
-        second: NONE,
-        number: 2,
-        place: 3,
-    },
-    Case {
-        first: Edit {
-            at: 622,
-            value: 32769,
-        },
-        second: NONE,
-        number: 2,
-        place: 3,
-    },
+    Case(Edit(162, 32768), None, 3, 1),
+    Case(Edit(392, 32768), None, 3, 2),
+    Case(Edit(622, 32768), None, 3, 3),
+    Case(Edit(162, 20001), None, 2, 1),
+    Case(Edit(622, 45535), None, 2, 3),
+    Case(Edit(622, 32769), None, 2, 3),
     // two at once: the order of the checks decides, not the order of the edits
-    Case {
-        first: Edit { at: 2, value: 0 },
-        second: Edit { at: 0, value: 8064 },
-        number: 2,
-        place: 0,
-    },
-    Case {
-        first: Edit { at: 2, value: 0 },
-        second: Edit { at: 0, value: 5 },
-        number: 4,
-        place: 0,
-    },
-    Case {
-        first: Edit { at: 4, value: 256 },
-        second: Edit { at: 2, value: 1 },
-        number: 5,
-        place: 0,
-    },
-    Case {
-        first: Edit {
-            at: 6,
-            value: 32768,
-        },
-        second: Edit { at: 4, value: 1 },
-        number: 2,
-        place: 0,
-    },
-    Case {
-        first: Edit {
-            at: 8,
-            value: 32768,
-        },
-        second: Edit { at: 6, value: 1561 },
-        number: 2,
-        place: 0,
-    },
-    Case {
-        first: Edit { at: 8, value: 1561 },
-        second: Edit {
-            at: 6,
-            value: 32768,
-        },
-        number: 3,
-        place: 0,
-    },
-    Case {
-        first: Edit { at: 156, value: 11 },
-        second: Edit {
-            at: 154,
-            value: 32768,
-        },
-        number: 3,
-        place: 0,
-    },
-    Case {
-        first: Edit { at: 158, value: 7 },
-        second: Edit { at: 156, value: 11 },
-        number: 2,
-        place: 1,
-    },
-    Case {
-        first: Edit {
-            at: 160,
-            value: 1024,
-        },
-        second: Edit { at: 158, value: 7 },
-        number: 5,
-        place: 1,
-    },
-    Case {
-        first: Edit {
-            at: 162,
-            value: 32768,
-        },
-        second: Edit { at: 160, value: 7 },
-        number: 2,
-        place: 1,
-    },
-    Case {
-        first: Edit { at: 312, value: 11 },
-        second: Edit {
-            at: 310,
-            value: 32768,
-        },
-        number: 3,
-        place: 1,
-    },
-    Case {
-        first: Edit { at: 468, value: 11 },
-        second: Edit { at: 314, value: 9 },
-        number: 5,
-        place: 2,
-    },
-    Case {
-        first: Edit {
-            at: 622,
-            value: 32768,
-        },
-        second: Edit {
-            at: 620,
-            value: 20001,
-        },
-        number: 2,
-        place: 3,
-    },
+    Case(Edit(2, 0), Some(Edit(0, 8064)), 2, 0),
+    Case(Edit(2, 0), Some(Edit(0, 5)), 4, 0),
+    Case(Edit(4, 256), Some(Edit(2, 1)), 5, 0),
+    Case(Edit(6, 32768), Some(Edit(4, 1)), 2, 0),
+    Case(Edit(8, 32768), Some(Edit(6, 1561)), 2, 0),
+    Case(Edit(8, 1561), Some(Edit(6, 32768)), 3, 0),
+    Case(Edit(156, 11), Some(Edit(154, 32768)), 3, 0),
+    Case(Edit(158, 7), Some(Edit(156, 11)), 2, 1),
+    Case(Edit(160, 1024), Some(Edit(158, 7)), 5, 1),
+    Case(Edit(162, 32768), Some(Edit(160, 7)), 2, 1),
+    Case(Edit(312, 11), Some(Edit(310, 32768)), 3, 1),
+    Case(Edit(468, 11), Some(Edit(314, 9)), 5, 2),
+    Case(Edit(622, 32768), Some(Edit(620, 20001)), 2, 3),
 ];
 
-fn put(bytes: &mut Vec<u8>, edit: Edit) {
-    if edit.at < 1_000_000 && edit.at + 1 < bytes.len() {
-        bytes[edit.at] = (edit.value / 256) as u8;
-        bytes[edit.at + 1] = (edit.value % 256) as u8;
+impl Edit {
+    fn apply(self, bytes: &mut [u8]) {
+        let Edit(at, value) = self;
+        if let Some(pair) = bytes.get_mut(at..).and_then(|rest| rest.first_chunk_mut()) {
+            *pair = value.to_be_bytes();
+        }
     }
 }
 
-// A good interval 10 for three units, with all values 0.
-fn good(heap: Global) -> Result<Vec<u8>, AllocError> {
-    let mut bytes = vec![in heap; 0u8; RECORD * (UNITS + 1)]?;
-    for place in 0..UNITS + 1 {
-        put(
-            &mut bytes,
-            Edit {
-                at: RECORD * place,
-                value: 10,
-            },
-        );
-        let unit = if place == 0 {
-            65_535
-        } else {
-            (place - 1) as u16
-        };
-        put(
-            &mut bytes,
-            Edit {
-                at: RECORD * place + 2,
-                value: unit,
-            },
-        );
+// An interval for three units, with all values 0.
+fn good(heap: Global, interval: u16) -> Result<Vec<u8>, AllocError> {
+    let mut bytes = Vec::new(heap);
+    for unit in [65_535u16, 0, 1, 2] {
+        bytes.extend_from_slice(&interval.to_be_bytes())?;
+        bytes.extend_from_slice(&unit.to_be_bytes())?;
+        bytes.extend_from_slice(&[0; RECORD_BYTES - 4])?;
     }
     Ok(bytes)
 }
 
 fn is_refused(answer: Result<(), Fault>, number: u8, place: usize) -> bool {
-    match answer {
-        Ok(()) => false,
-        Err(fault) => fault.refusal.number() == number
-            && fault.layer.number() == 1
-            && fault.place == place,
-    }
+    answer.is_err_and(|fault| {
+        fault.refusal.number() == number && fault.layer.number() == 1 && fault.place == place
+    })
 }
 
 // Parties 7 and 0 and the residual have a unit each; interval 5 was used, in which FI was 100 and unit 1 was 20 below.
 fn started(rt: &impl Abort, heap: Global) -> Result<Sampling, Fail> {
     let mut sampling = Sampling::open(heap);
     assert!(rt; sampling.register(&[7, 0, 64]).is_ok());
-    let mut bytes = good(heap)?;
-    for place in 0..UNITS + 1 {
-        put(
-            &mut bytes,
-            Edit {
-                at: RECORD * place,
-                value: 5,
-            },
-        );
-    }
-    put(&mut bytes, Edit { at: 6, value: 100 });
-    put(
-        &mut bytes,
-        Edit {
-            at: 318,
-            value: 65_516,
-        },
-    );
+    let mut bytes = good(heap, 5)?;
+    Edit(6, 100).apply(&mut bytes);
+    Edit(318, 65_516).apply(&mut bytes);
     assert!(rt; sampling.add_interval(bytes.as_slice()).is_ok());
     Ok(sampling)
 }
@@ -419,20 +111,16 @@ fn check_as_started(rt: &impl Abort, sampling: &Sampling) {
 fn each_fault_of_an_interval(rt: HostRuntime) -> Result<(), Fail> {
     let heap = rt.alloc();
     let mut sampling = started(&rt, heap)?;
-    for case in CASES {
-        let mut bytes = good(heap)?;
-        put(&mut bytes, case.first);
-        put(&mut bytes, case.second);
-        assert!(rt;
-            is_refused(
-                sampling.add_interval(bytes.as_slice()),
-                case.number,
-                case.place,
-            )
-        );
+    for Case(first, second, number, place) in CASES {
+        let mut bytes = good(heap, 10)?;
+        first.apply(&mut bytes);
+        if let Some(edit) = second {
+            edit.apply(&mut bytes);
+        }
+        assert!(rt; is_refused(sampling.add_interval(bytes.as_slice()), number, place));
         check_as_started(&rt, &sampling);
     }
-    let bytes = good(heap)?;
+    let bytes = good(heap, 10)?;
     assert!(rt; sampling.add_interval(bytes.as_slice()).is_ok());
     Ok(())
 }
@@ -441,42 +129,12 @@ fn each_fault_of_an_interval(rt: HostRuntime) -> Result<(), Fail> {
 fn limits_are_inside(rt: HostRuntime) -> Result<(), Fail> {
     let heap = rt.alloc();
     let mut sampling = started(&rt, heap)?;
-    let mut bytes = good(heap)?;
-    put(
-        &mut bytes,
-        Edit {
-            at: 6,
-            value: 1_560,
-        },
-    );
-    put(
-        &mut bytes,
-        Edit {
-            at: 154,
-            value: 63_976,
-        },
-    );
-    put(
-        &mut bytes,
-        Edit {
-            at: 160,
-            value: 768,
-        },
-    );
-    put(
-        &mut bytes,
-        Edit {
-            at: 162,
-            value: 20_000,
-        },
-    );
-    put(
-        &mut bytes,
-        Edit {
-            at: 310,
-            value: 45_536,
-        },
-    );
+    let mut bytes = good(heap, 10)?;
+    Edit(6, 1_560).apply(&mut bytes);
+    Edit(154, 63_976).apply(&mut bytes);
+    Edit(160, 768).apply(&mut bytes);
+    Edit(162, 20_000).apply(&mut bytes);
+    Edit(310, 45_536).apply(&mut bytes);
     assert!(rt; sampling.add_interval(bytes.as_slice()).is_ok());
     assert!(rt; sampling.used() == 2);
     assert!(rt; sampling.sum(0, Category::RaiseEnabled) == 31_200_000);
@@ -491,16 +149,7 @@ fn the_first_and_the_last_interval_of_the_period(rt: HostRuntime) -> Result<(), 
     let mut sampling = Sampling::open(heap);
     assert!(rt; sampling.register(&[7, 0, 64]).is_ok());
     for number in [0u16, 8_063] {
-        let mut bytes = good(heap)?;
-        for place in 0..UNITS + 1 {
-            put(
-                &mut bytes,
-                Edit {
-                    at: RECORD * place,
-                    value: number,
-                },
-            );
-        }
+        let bytes = good(heap, number)?;
         assert!(rt; sampling.add_interval(bytes.as_slice()).is_ok());
     }
     assert!(rt; sampling.used() == 2);
@@ -517,15 +166,9 @@ fn lengths_and_units_come_first(rt: HostRuntime) -> Result<(), Fail> {
     assert!(rt; sampling.register(&[7, 0, 64]).is_ok());
     assert!(rt; is_refused(sampling.ready(), 6, 0));
     assert!(rt; is_refused(sampling.add_interval(&[]), 1, 0));
-    let mut bytes = good(heap)?;
+    let mut bytes = good(heap, 10)?;
     // a bad interval number too: the length is judged before
-    put(
-        &mut bytes,
-        Edit {
-            at: 0,
-            value: 8_064,
-        },
-    );
+    Edit(0, 8_064).apply(&mut bytes);
     bytes.push(0)?;
     assert!(rt; is_refused(sampling.add_interval(bytes.as_slice()), 1, 0));
     bytes.truncate(623);
@@ -539,7 +182,7 @@ fn weights_of_nothing(rt: HostRuntime) -> Result<(), Fail> {
     let heap = rt.alloc();
     let mut sampling = Sampling::open(heap);
     assert!(rt; sampling.register(&[7, 0, 64]).is_ok());
-    let bytes = good(heap)?;
+    let bytes = good(heap, 10)?;
     assert!(rt; sampling.add_interval(bytes.as_slice()).is_ok());
     assert!(rt; is_refused(sampling.ready(), 7, 0));
     // published in spite of it: all 0, and the parties with a unit are factored
