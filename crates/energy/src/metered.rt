@@ -1,7 +1,6 @@
 // Metered energies, by records of a party, a region and kWh; the records are summed once, when the source is made.
 ghost use Rattle.std.specs.Prelude.{◌≡◌, ℕ, suc, ◌+◌, ◌*◌, ◌/◌, ◌≤◌, length, IfOk, None};
 ghost use Rattle.foundation.specs.Fault.{refusal};
-ghost use Rattle.foundation.specs.declared.fault.Layer.TheVariants.{Energies};
 ghost use Rattle.energy.specs.Metered.{party_at, region_at, zero_at, kwh_at, fields_fault, metered_fault, metered_kwh, summed};
 ghost use Rattle.energy.specs.Table.{figure_of};
 
@@ -28,16 +27,6 @@ struct Reading {
     kwh: u32,
 }
 
-pub(crate) fn energies_fault(refusal: Refusal, place: usize) -> Fault
-    ensures { result ≡ record { refusal = refusal; layer = Energies; place = place } }
-{
-    Fault {
-        refusal,
-        layer: Layer::Energies,
-        place,
-    }
-}
-
 fn read_at(bytes: &[u8], k: usize) -> Reading
     requires { 8 * suc k ≤ length bytes.now }
     ensures party { result.party ≡ party_at bytes.now k }
@@ -61,10 +50,10 @@ fn check_reading(reading: Reading, before: u32, place: usize) -> Result<u32, Fau
     ensures value { IfOk result (λ sum. (sum ≡ before + reading.kwh) × (sum ≤ 40000000)) }
 {
     if reading.party >= PARTIES || reading.region >= REGIONS || reading.zero != 0 {
-        return Err(energies_fault(Refusal::OutOfRange, place));
+        return Err(Layer::Energies.fault(Refusal::OutOfRange, place));
     }
     if reading.kwh > LIMIT - before {
-        return Err(energies_fault(Refusal::TooMuchEnergy, place));
+        return Err(Layer::Energies.fault(Refusal::TooMuchEnergy, place));
     }
     Ok(before + reading.kwh)
 }
@@ -88,7 +77,7 @@ impl Metered {
     {
         let records = bytes.len() / RECORD_BYTES;
         if bytes.len() % RECORD_BYTES != 0 || records > MOST_RECORDS {
-            return Err(energies_fault(Refusal::WrongLength, 0));
+            return Err(Layer::Energies.fault(Refusal::WrongLength, 0));
         }
         let mut sum = 0;
         for k in 0..records {

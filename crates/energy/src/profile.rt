@@ -5,10 +5,10 @@ ghost use Rattle.foundation.specs.Sums.{listed, sum_to};
 ghost use Rattle.energy.specs.Profile.{profile_fault, profile_kwh};
 ghost use Rattle.energy.specs.Divisions.{profile_bounded};
 
-use crate::metered::{LIMIT, energies_fault};
+use crate::metered::LIMIT;
 use crate::source::{EnergySource, PARTIES, REGIONS};
 use foundation::division::divide;
-use foundation::fault::{Fault, Refusal};
+use foundation::fault::{Fault, Layer, Refusal};
 
 #[derive(Clone, Copy)]
 pub struct Profile {
@@ -45,7 +45,7 @@ impl Profile {
         ensures value { IfOk result (λ s. (s.totals ≡ totals) × (s.weights ≡ weights)) }
     {
         if sum_of(&totals) > u64::from(LIMIT) {
-            return Err(energies_fault(Refusal::TooMuchEnergy, 0));
+            return Err(Layer::Energies.fault(Refusal::TooMuchEnergy, 0));
         }
         Ok(Profile { totals, weights })
     }
