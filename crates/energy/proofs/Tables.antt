@@ -75,11 +75,3 @@ zero_figures n m p r =
 
 pub grand_zero : (f : ℕ → ℕ → ℕ) → ((p r : ℕ) → f p r ≡ 0) → grand f ≡ 0
 grand_zero f h = grand_is f ∙ sum_to_zero 5 (in_region f) (λ r l. region_is f r ∙ sum_to_zero 64 (λ p. f p r) (λ p m. h p r))
-
--- a table that is filled row by row
-pub rows_more : (f : ℕ → ℕ → ℕ) (rows : List (List ℕ)) (row : List ℕ) (n : ℕ) → n < length rows → ((r : ℕ) → r < 5 → get_or row r 0 ≡ f n r) → ((p r : ℕ) → p < n → r < 5 → figure_of rows p r ≡ f p r) → (p r : ℕ) → p < n + 1 → r < 5 → figure_of (set rows n row) p r ≡ f p r
-rows_more f rows row n l new old p r m k =
-    ⊎_elim
-    (λ (e : p ≡ n). ap (λ q. get_or (get_or (set rows n row) q []) r 0) e ∙ ap (λ x. get_or x r 0) (get_or-set_same rows n row [] l) ∙ new r k ∙ ap (λ q. f q r) (sym e))
-    (λ (e : p ≢ n). ap (λ x. get_or x r 0) (get_or-set_other rows n p row [] e) ∙ old p r (omega arith) k)
-    (cases_eq p n)
