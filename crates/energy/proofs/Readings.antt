@@ -1,6 +1,6 @@
 -- Laws of metered records.
 use Rattle.std.proofs.Common.{◌≡◌, ℕ, suc, ◌+◌, ◌/◌, ◌%◌, ◌<◌, ◌≤◌, Bool, true, false, cond, ◌&&◌, eqb, leb, List, [], length, Some, None, Option, sym, refl, ap, ◌∙◌, subst, add-one, arith}
-use Rattle.std.specs.Prelude.{◌*◌, slice_index_or}
+use Rattle.std.specs.Prelude.{slice_index_or}
 use Rattle.std.specs.Simd.{first_chunks}
 use borrow.Author.Tests.{true-leb}
 use Rattle.std.proofs.lemmas.Bool.Decides.{nat_tests}

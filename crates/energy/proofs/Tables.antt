@@ -24,19 +24,6 @@ bumped_all p r v f l m =
     ∙ ap (λ n. n + sum_to 5 (λ s. cond (eqb s r) v 0)) (sym (grand_is f))
     ∙ ap (λ n. grand f + n) (sum_to_single 5 r v m)
 
-pub row_put : (row : List ℕ) (r v s : ℕ) → r < length row → get_or (set row r (get_or row r 0 + v)) s 0 ≡ get_or row s 0 + cond (eqb s r) v 0
-row_put row r v s l =
-    ⊎_elim
-    (λ (e : s ≡ r).
-    ap (λ k. get_or (set row r (get_or row r 0 + v)) k 0) e
-    ∙ get_or-set_same row r (get_or row r 0 + v) 0 l
-    ∙ sym (ap (λ b. get_or row s 0 + cond b v 0) (eq-eqb s r e) ∙ ap (λ k. get_or row k 0 + v) e))
-    (λ (e : s ≢ r). get_or-set_other row r s (get_or row r 0 + v) 0 e ∙ sym (ap (λ b. get_or row s 0 + cond b v 0) (ne_eqb s r e) ∙ none (get_or row s 0)))
-    (cases_eq s r)
-  where
-    none : (n : ℕ) → n + 0 ≡ n
-    none n = omega arith
-
 nothing : (b : Bool) (n : ℕ) → n + cond b 0 0 ≡ n
 nothing true n = omega arith
 nothing false n = omega arith

@@ -5,13 +5,11 @@ ghost use Rattle.sampling.specs.Factors.{residual_of};
 ghost use Rattle.energy.specs.Dispatch.{dispatch_fault, dispatch_of};
 ghost use Rattle.energy.specs.Energy.{grand};
 
-use crate::island::Island;
+use crate::island::{ALL_REGIONS, Island};
 use crate::source::{EnergySource, REGIONS};
 use foundation::division::portion;
 use foundation::fault::{Fault, Layer, Refusal};
 use sampling::factors::Factors;
-
-const ALL_REGIONS: u8 = 31;
 
 // The totals of all regions.
 fn total_of_all<E: EnergySource>(source: &E) -> u64

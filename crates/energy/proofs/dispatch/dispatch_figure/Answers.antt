@@ -1,7 +1,7 @@
-use Rattle.std.proofs.Common.{◌≡◌, ◌*◌, ◌/◌, ◌≤◌, sym, ap, ◌∙◌, arith, rules}
+use Rattle.std.proofs.Common.{◌*◌, ◌/◌, ◌≤◌, sym, ap, ◌∙◌, arith, rules}
 use Rattle.foundation.specs.Sums.{sum_to}
 use Rattle.sampling.specs.Factors.{residual_of}
-use Rattle.energy.specs.Energy.{in_region, grand, within}
+use Rattle.energy.specs.Energy.{in_region}
 use Rattle.energy.specs.Totals.{grand_is, quotient_le, within_all, within_le}
 use Rattle.energy.proofs.dispatch.dispatch_figure.Goals as goal
 

@@ -1,9 +1,8 @@
-use Rattle.std.specs.Prelude.{◌≡◌, ℕ, ◌<◌, ◌≤◌, map, sum}
+use Rattle.std.specs.Prelude.{◌≡◌, ℕ, map, sum}
 use Rattle.std.specs.List.{range_with_len}
-use Rattle.std.proofs.Common.{sym, ap, ◌∙◌, arith, rules}
+use Rattle.std.proofs.Common.{sym, ◌∙◌, arith, rules}
 use Rattle.std.proofs.lemmas.Iterator.{YieldsList-from_range, YieldsList-from_map}
 use Rattle.std.proofs.lemmas.Iterator.Consumers.{YieldsList-at, sum_from_yields_List, fits_from_yields_list}
-use Rattle.foundation.specs.Sums.{sum_to}
 use Rattle.foundation.proofs.Sums.{sum_to_eq}
 use Rattle.energy.specs.Energy.{grand, in_region, total_of}
 use Rattle.energy.specs.Totals.{grand_is, total_inside}

@@ -1,4 +1,4 @@
-use Rattle.std.proofs.Common.{◌≡◌, ◌*◌, ◌<◌, ◌≤◌, ◌^◌, List, map, length, sum, ℕ, sym, ap, ◌∙◌, arith, w32, Fits, rules}
+use Rattle.std.proofs.Common.{◌≡◌, ◌^◌, length, ℕ, ap, ◌∙◌, arith, w32, Fits, rules}
 use Rattle.std.proofs.lemmas.Iterator.{YieldsList-from_slice, YieldsList-from_map}
 use Rattle.std.proofs.lemmas.Iterator.Consumers.{YieldsList-at, fits_by_from_yields_list, sum_by_from_yields_List}
 use Rattle.foundation.specs.Sums.{listed, sum_to}

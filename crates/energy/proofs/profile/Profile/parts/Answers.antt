@@ -1,4 +1,4 @@
-use Rattle.std.proofs.Common.{◌≡◌, ℕ, ◌<◌, ◌≤◌, ◌∙◌, w16, Fits, ap, arith, rules}
+use Rattle.std.proofs.Common.{◌≡◌, ℕ, ◌<◌, ◌∙◌, w16, Fits, ap, arith, rules}
 use Rattle.foundation.specs.Division.{share}
 use Rattle.foundation.specs.Sums.{listed}
 use Rattle.foundation.proofs.Shares.{share_eq}
