@@ -1,38 +1,24 @@
 -- A record more in a journal's bytes.
-use Rattle.std.proofs.Common.{◌≡◌, ℕ, zero, suc, ◌+◌, ◌*◌, ◌/◌, ◌%◌, ◌<◌, ◌≤◌, Bool, true, false, cond, ◌&&◌, eqb, ◌≢◌, List, [], ◌∷◌, ◌++◌, length, get_or, take, drop, set, ℤ, pos, ◌+ℤ◌, nat_abs, sym, refl, ap, ◌∙◌, subst, ⊎_elim, arith, w64, SFits, to_z, of_z}
+use Rattle.std.proofs.Common.{◌≡◌, ℕ, zero, suc, ◌+◌, ◌-◌, ◌*◌, ◌/◌, ◌%◌, ◌<◌, ◌≤◌, Bool, true, false, cond, ◌&&◌, eqb, ◌≢◌, List, [], ◌∷◌, ◌++◌, length, get_or, take, drop, set, ℤ, pos, ◌+ℤ◌, nat_abs, sym, refl, ap, ◌∙◌, subst, ⊎_elim, None, add-one, arith, w64, SFits, to_z, of_z}
 use lib.Signed.{le_z}
 use Rattle.std.proofs.lemmas.List.{get_or-set_same, get_or-set_other, same_lists, places, length-append, length-set, take_all, take-append-drop, take_at, drop_at, drop-drop, append_assoc}
+use Rattle.std.proofs.lemmas.Slice.{take-put_mid, drop-put_mid}
+use borrow.Rule.Slice.PartMut.{put_mid}
 use Rattle.std.proofs.lemmas.Int.{to_z-of_z}
 use mir.ValLaws.{of_z_fits}
 use Rattle.std.proofs.lemmas.Bool.{cases_eq, cases_lt}
 use Rattle.foundation.proofs.Signed.{nat_abs_add}
 use Rattle.foundation.specs.Bytes.{number_at, long_at}
-use Rattle.ledger.specs.Amounts.{magnitudes, posted}
+use Rattle.ledger.specs.Amounts.{magnitudes, posted, post_fault}
 use Rattle.ledger.specs.Posts.{Event, Post, accepted, lines_in}
 use Rattle.ledger.specs.declared.entry.Entry.{Entry}
 use Rattle.ledger.specs.Entries.{EntryAt}
 use Rattle.ledger.specs.Journal.{JournalHolds, encoded, laid, line_at, owed_in, party_at, record_of, records_in, serial_at}
-use Rattle.ledger.proofs.Postings.{Sound, debt_more, magnitudes_eq, sizes_more}
+use Rattle.ledger.proofs.Postings.{Sound, sound, debt_more, magnitudes_eq, sizes_more}
 
 -- the bytes while a record is laid: k of its bytes are
 abbrev pub laid_to : List ℕ → ℕ → List ℕ → ℕ → List ℕ
 laid_to b at x k = take at b ++ (take k x ++ drop (at + k) b)
-
-pub lay_none : (b : List ℕ) (at : ℕ) (x : List ℕ) → laid_to b at x 0 ≡ b
-lay_none b at x =
-    let here : at + 0 ≡ at = omega arith in
-    ap (λ n. take at b ++ drop n b) here ∙ take-append-drop at b
-
-pub lay_more : (b : List ℕ) (at : ℕ) (x : List ℕ) (k : ℕ) → at + k < length b → k < length x → set (laid_to b at x k) (at + k) (get_or x k 0) ≡ laid_to b at x (k + 1)
-lay_more b at x k l m =
-    same_lists _ _ (grind (arith, places, length-set)) (λ j d h.
-    ⊎_elim
-    (λ (e : j ≡ at + k). ap (λ n. get_or (set (laid_to b at x k) (at + k) (get_or x k 0)) n d) e ∙ get_or-set_same (laid_to b at x k) (at + k) (get_or x k 0) d (grind (arith, places)) ∙ sym (ap (λ n. get_or (laid_to b at x (k + 1)) n d) e ∙ here d))
-    (λ (e : j ≢ at + k). get_or-set_other (laid_to b at x k) (at + k) j (get_or x k 0) d e ∙ grind (arith, places))
-    (cases_eq j (at + k)))
-  where
-    here : (d : ℕ) → get_or (laid_to b at x (k + 1)) (at + k) d ≡ get_or x k 0
-    here d = grind (arith, places)
 
 pub lay_length : (b : List ℕ) (at : ℕ) (x : List ℕ) (k : ℕ) → at + k ≤ length b → k ≤ length x → length (laid_to b at x k) ≡ length b
 lay_length b at x k l m = grind (arith, places)
@@ -194,13 +180,37 @@ sure_more b n p s line left hp hs f room x sure =
       sizes = omega (arith, sizes_more p s line left n (owed_in b n) (owed_in (laid b n (record_of p s line)) (suc n)) x (owed_more b n p s line fits hp hs f) sure.sizes);
     }
 
--- a record that is laid as a whole
-pub laid_whole : (b c x : List ℕ) (n k p s : ℕ) (line : ℤ) → c ≡ laid_to b (16 * n) x k → k ≡ 16 → x ≡ record_of p s line → c ≡ laid b n (record_of p s line)
-laid_whole b c x n k p s line h e f =
-    h
-    ∙ ap (laid_to b (16 * n) x) e
-    ∙ ap (λ y. laid_to b (16 * n) y 16) f
-    ∙ laid_is b n (record_of p s line) refl
+-- a record that is written over a part of the bytes
+pub put_laid : (b x : List ℕ) (n p s : ℕ) (line : ℤ) → 16 * n + 16 ≤ length b → x ≡ record_of p s line → put_mid (16 * n) (16 * n + 16 - 16 * n) b x ≡ laid b n (record_of p s line)
+put_laid b x n p s line fits e =
+    let part : 16 * n + 16 - 16 * n ≡ 16 = omega arith in
+    let long : length x ≡ 16 = ap length e in
+    ap (λ k. put_mid (16 * n) k b x) part
+    ∙ sym (take-append-drop (16 * n + 16) (put_mid (16 * n) 16 b x))
+    ∙ ap (λ y. y ++ drop (16 * n + 16) (put_mid (16 * n) 16 b x)) (take-put_mid (16 * n) 16 b x (16 * n + 16) (omega (arith, long)) (omega arith))
+    ∙ ap (λ y. (take (16 * n) b ++ x) ++ y) (drop-put_mid (16 * n) 16 b x (16 * n + 16) (omega arith) (omega arith) long)
+    ∙ append_assoc (take (16 * n) b) x (drop (16 * n + 16) b)
+    ∙ ap (laid b n) e
+
+-- a journal's bytes after a post that was taken
+pub record Written (b c : List ℕ) (n p s : ℕ) (line : ℤ) : Type 0 where
+  pub bytes : c ≡ laid b n (record_of p s line)
+  pub sure : Sure c (n + 1)
+  pub amounts : (q t : ℕ) → owed_in c (n + 1) q t ≡ posted p s line (owed_in b n) q t
+
+-- from what the calls of the post say: the line is as the code keeps it
+pub written : (b x y : List ℕ) (n p s : ℕ) (line : ℤ) (left : ℕ) → SFits w64 line → p < 65536 → s < 65536 → Sure b n → None ≡ post_fault p s (to_z w64 (of_z w64 line)) left → left ≡ records_in b - n → x ≡ y → y ≡ record_of p s (to_z w64 (of_z w64 line)) → Written b (put_mid (16 * n) (16 * n + 16 - 16 * n) b x) n p s line
+written b x y n p s line left f hp hs sure none room copied e =
+    let same : to_z w64 (of_z w64 line) ≡ line = to_z-of_z w64 line f in
+    let sound-is : Sound p s line left = sound p s line left (sym (none ∙ ap (λ z. post_fault p s z left) same)) in
+    let few : n < records_in b = omega (arith, sound-is.some) in
+    let new : put_mid (16 * n) (16 * n + 16 - 16 * n) b x ≡ laid b n (record_of p s line) = put_laid b x n p s line (omega arith) (copied ∙ e ∙ ap (record_of p s) same) in
+    let next : n + 1 ≡ suc n = add-one n in
+    record {
+      bytes = new;
+      sure = rw (new, next) (sure_more b n p s line left hp hs f few sound-is sure);
+      amounts = λ q t. rw (new, next) (owed_more b n p s line (omega arith) hp hs f q t);
+    }
 
 pub holds_laid : (b c old : List ℕ) (n m : ℕ) (h : List Event) (l : Post) → c ≡ laid b n (record_of l.party l.serial l.line) → m ≡ suc n → JournalHolds h old b n → JournalHolds (accepted l ∷ h) old c m
 holds_laid b c old n m h l e f g = record { lines = f ∙ ap suc g.lines; bytes = e ∙ written_more old b (lines_in h) n l g.lines g.bytes }

@@ -6,7 +6,7 @@ ghost use Rattle.ledger.specs.Limits.{left_few, within_limit};
 ghost use Rattle.ledger.specs.Posts.{Event, Holds, called_post, lines_in};
 ghost use Rattle.ledger.specs.Table.{TableHolds, amounts_of, place_of};
 
-use crate::posting::{Ledger, PARTIES, SERIALS, check_post};
+use crate::posting::{Ledger, SERIALS, check_post, is_amount};
 use foundation::fault::Fault;
 
 // The lines that a table takes.
@@ -49,10 +49,6 @@ impl Ledger for Table {
 
     ghost room = { λ t. 1000000 - t.posted };
 
-    ghost bounded = { λ t. within_limit (amounts_of t.amounts) t.posted t.debts t.sizes t.few };
-
-    ghost few = { λ t. left_few t.posted };
-
     fn post(&mut self, party: u16, serial: u16, line: i64) -> Result<(), Fault>
         ensures answer { refusal result ≡ post_fault party serial line (1000000 - self.old.posted) }
         ensures amounts { (p s : ℕ) → amounts_of self.new.amounts p s ≡ after_post result party serial line (amounts_of self.old.amounts) p s }
@@ -68,7 +64,7 @@ impl Ledger for Table {
     }
 
     fn amount(&self, party: u16, serial: u16) -> i64 {
-        if party >= PARTIES || serial < 1 || serial > SERIALS {
+        if !is_amount(party, serial) {
             return 0;
         }
         self.amounts[place_of(party, serial)]
@@ -80,4 +76,8 @@ impl Ledger for Table {
     {
         CAPACITY - self.posted
     }
+
+    ghost bounded = { λ t. within_limit (amounts_of t.amounts) t.posted t.debts t.sizes t.few };
+
+    ghost few = { λ t. left_few t.posted };
 }
