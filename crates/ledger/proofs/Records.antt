@@ -1,5 +1,5 @@
 -- The records of a journal's bytes as they are cut into arrays.
-use Rattle.std.specs.Prelude.{◌≡◌, ℕ, ◌+◌, ◌*◌, ◌<◌, ◌≤◌, List, [], take, slice_index_or}
+use Rattle.std.specs.Prelude.{◌≡◌, ℕ, ◌<◌, ◌≤◌, List, [], take, slice_index_or}
 use Rattle.std.specs.Simd.{first_chunks}
 use Rattle.std.specs.Int.{w64}
 use Rattle.std.proofs.Common.{to_z, ap, ◌∙◌, subst, arith}
