@@ -1,48 +1,31 @@
 -- A record more in a journal's bytes.
-use Rattle.std.proofs.Common.{◌≡◌, ℕ, zero, suc, ◌+◌, ◌*◌, ◌/◌, ◌%◌, ◌<◌, ◌≤◌, Bool, true, false, cond, ◌&&◌, eqb, ◌≢◌, List, [], ◌∷◌, ◌++◌, length, get_or, take, drop, set, ℤ, pos, ◌+ℤ◌, nat_abs, sym, refl, ap, ◌∙◌, subst, ⊎_elim, arith, w64, SFits, to_z, of_z}
+use Rattle.std.proofs.Common.{◌≡◌, ℕ, zero, suc, ◌+◌, ◌-◌, ◌*◌, ◌/◌, ◌%◌, ◌<◌, ◌≤◌, Bool, true, false, cond, ◌&&◌, eqb, List, [], ◌∷◌, ◌++◌, length, get_or, take, drop, ℤ, pos, ◌+ℤ◌, nat_abs, sym, refl, ap, ◌∙◌, subst, ⊎_elim, None, add-one, arith, w64, SFits, to_z, of_z}
 use lib.Signed.{le_z}
-use Rattle.std.proofs.lemmas.List.{get_or-set_same, get_or-set_other, same_lists, places, length-append, length-set, take_all, take-append-drop, take_at, drop_at, drop-drop, append_assoc}
+use Rattle.std.proofs.lemmas.List.{places, length-append, take-append-drop, take_at, drop_at, drop-drop, append_assoc}
+use Rattle.std.proofs.lemmas.Slice.{take-put_mid, drop-put_mid}
+use borrow.Rule.Slice.PartMut.{put_mid}
 use Rattle.std.proofs.lemmas.Int.{to_z-of_z}
 use mir.ValLaws.{of_z_fits}
-use Rattle.std.proofs.lemmas.Bool.{cases_eq, cases_lt}
+use Rattle.std.proofs.lemmas.Bool.{cases_lt}
 use Rattle.foundation.proofs.Signed.{nat_abs_add}
 use Rattle.foundation.specs.Bytes.{number_at, long_at}
-use Rattle.ledger.specs.Amounts.{magnitudes, posted}
+use Rattle.ledger.specs.Amounts.{magnitudes, posted, post_fault}
 use Rattle.ledger.specs.Posts.{Event, Post, accepted, lines_in}
 use Rattle.ledger.specs.declared.entry.Entry.{Entry}
 use Rattle.ledger.specs.Entries.{EntryAt}
 use Rattle.ledger.specs.Journal.{JournalHolds, encoded, laid, line_at, owed_in, party_at, record_of, records_in, serial_at}
-use Rattle.ledger.proofs.Postings.{Sound, debt_more, magnitudes_eq, sizes_more}
+use Rattle.ledger.proofs.Postings.{Sound, sound, debt_more, sizes_more}
 
--- the bytes while a record is laid: k of its bytes are
-abbrev pub laid_to : List ℕ → ℕ → List ℕ → ℕ → List ℕ
-laid_to b at x k = take at b ++ (take k x ++ drop (at + k) b)
-
-pub lay_none : (b : List ℕ) (at : ℕ) (x : List ℕ) → laid_to b at x 0 ≡ b
-lay_none b at x =
-    let here : at + 0 ≡ at = omega arith in
-    ap (λ n. take at b ++ drop n b) here ∙ take-append-drop at b
-
-pub lay_more : (b : List ℕ) (at : ℕ) (x : List ℕ) (k : ℕ) → at + k < length b → k < length x → set (laid_to b at x k) (at + k) (get_or x k 0) ≡ laid_to b at x (k + 1)
-lay_more b at x k l m =
-    same_lists _ _ (grind (arith, places, length-set)) (λ j d h.
-    ⊎_elim
-    (λ (e : j ≡ at + k). ap (λ n. get_or (set (laid_to b at x k) (at + k) (get_or x k 0)) n d) e ∙ get_or-set_same (laid_to b at x k) (at + k) (get_or x k 0) d (grind (arith, places)) ∙ sym (ap (λ n. get_or (laid_to b at x (k + 1)) n d) e ∙ here d))
-    (λ (e : j ≢ at + k). get_or-set_other (laid_to b at x k) (at + k) j (get_or x k 0) d e ∙ grind (arith, places))
-    (cases_eq j (at + k)))
-  where
-    here : (d : ℕ) → get_or (laid_to b at x (k + 1)) (at + k) d ≡ get_or x k 0
-    here d = grind (arith, places)
-
-pub lay_length : (b : List ℕ) (at : ℕ) (x : List ℕ) (k : ℕ) → at + k ≤ length b → k ≤ length x → length (laid_to b at x k) ≡ length b
-lay_length b at x k l m = grind (arith, places)
+-- the bytes with a record laid
+pub laid_length : (b : List ℕ) (n : ℕ) (x : List ℕ) → 16 * n + 16 ≤ length b → length x ≡ 16 → length (laid b n x) ≡ length b
+laid_length b n x l m = grind (arith, places)
 
 -- what stood before the record stays
-pub lay_before : (b : List ℕ) (at : ℕ) (x : List ℕ) (k i : ℕ) → at + k ≤ length b → i < at → get_or (laid_to b at x k) i 0 ≡ get_or b i 0
-lay_before b at x k i l m = grind (arith, places)
+laid_before : (b : List ℕ) (n : ℕ) (x : List ℕ) (i : ℕ) → 16 * n + 16 ≤ length b → i < 16 * n → get_or (laid b n x) i 0 ≡ get_or b i 0
+laid_before b n x i l m = grind (arith, places)
 
-pub lay_record : (b : List ℕ) (at : ℕ) (x : List ℕ) (k i : ℕ) → at + k ≤ length b → i < k → k ≤ length x → get_or (laid_to b at x k) (at + i) 0 ≡ get_or x i 0
-lay_record b at x k i l m n = grind (arith, places)
+laid_record : (b : List ℕ) (n : ℕ) (x : List ℕ) (i : ℕ) → 16 * n + 16 ≤ length b → i < length x → get_or (laid b n x) (16 * n + i) 0 ≡ get_or x i 0
+laid_record b n x i l m = grind (arith, places)
 
 -- amounts are told by the bytes of the records alone
 number_eq : (b c : List ℕ) (i : ℕ) → ((j : ℕ) → j < 2 → get_or b (i + j) 0 ≡ get_or c (i + j) 0) → number_at b i ≡ number_at c i
@@ -57,7 +40,7 @@ long_eq b c i h =
     let first : get_or b i 0 ≡ get_or c i 0 = subst (λ n. get_or b n 0 ≡ get_or c n 0) (omega arith) (h 0 (omega arith)) in
     omega (arith, first, h 1 (omega arith), h 2 (omega arith), h 3 (omega arith), h 4 (omega arith), h 5 (omega arith), h 6 (omega arith), h 7 (omega arith))
 
-pub owed_kept : (b c : List ℕ) (n : ℕ) → ((i : ℕ) → i < 16 * n → get_or b i 0 ≡ get_or c i 0) → (p s : ℕ) → owed_in b n p s ≡ owed_in c n p s
+owed_kept : (b c : List ℕ) (n : ℕ) → ((i : ℕ) → i < 16 * n → get_or b i 0 ≡ get_or c i 0) → (p s : ℕ) → owed_in b n p s ≡ owed_in c n p s
 owed_kept b c zero h p s = refl
 owed_kept b c (suc n) h p s =
     let party : party_at b n ≡ party_at c n = number_eq b c (16 * n) (λ j l. h (16 * n + j) (omega arith)) in
@@ -89,14 +72,10 @@ long_encoded : (p s : ℕ) (line : ℤ) → SFits w64 line → long_at (record_o
 unfolding long_at
 long_encoded p s line f = long_of (of_z w64 line) (of_z_fits w64 line f).fits
 
--- the bytes after a record is laid, as the rules say them
-pub laid_is : (b : List ℕ) (n : ℕ) (x : List ℕ) → length x ≡ 16 → laid_to b (16 * n) x 16 ≡ laid b n x
-laid_is b n x long = ap (λ y. take (16 * n) b ++ (y ++ drop (16 * n + 16) b)) (take_all 16 x (omega (arith, long)))
-
 -- the fields of the record laid
 module _ (b : List ℕ) (n p s : ℕ) (line : ℤ) (l : 16 * n + 16 ≤ length b) where
   byte_laid : (i : ℕ) → i < 16 → get_or (laid b n (record_of p s line)) (16 * n + i) 0 ≡ get_or (record_of p s line) i 0
-  byte_laid i h = rw (sym (laid_is b n (record_of p s line) refl)) (lay_record b (16 * n) (record_of p s line) 16 i l h (omega arith))
+  byte_laid i h = laid_record b n (record_of p s line) i l h
 
   byte_at : (k i : ℕ) → k ≡ 16 * n + i → i < 16 → get_or (laid b n (record_of p s line)) k 0 ≡ get_or (record_of p s line) i 0
   byte_at k i e h = ap (λ m. get_or (laid b n (record_of p s line)) m 0) e ∙ byte_laid i h
@@ -113,9 +92,9 @@ module _ (b : List ℕ) (n p s : ℕ) (line : ℤ) (l : 16 * n + 16 ≤ length b
       ∙ to_z-of_z w64 line f
 
   before_laid : (q t : ℕ) → owed_in (laid b n (record_of p s line)) n q t ≡ owed_in b n q t
-  before_laid = owed_kept (laid b n (record_of p s line)) b n (λ i h. rw (sym (laid_is b n (record_of p s line) refl)) (lay_before b (16 * n) (record_of p s line) 16 i l h))
+  before_laid = owed_kept (laid b n (record_of p s line)) b n (λ i h. laid_before b n (record_of p s line) i l h)
 
-  pub owed_more : p < 65536 → s < 65536 → SFits w64 line → (q t : ℕ) → owed_in (laid b n (record_of p s line)) (suc n) q t ≡ posted p s line (owed_in b n) q t
+  owed_more : p < 65536 → s < 65536 → SFits w64 line → (q t : ℕ) → owed_in (laid b n (record_of p s line)) (suc n) q t ≡ posted p s line (owed_in b n) q t
   owed_more hp hs f q t =
       ap (λ z. posted z (serial_at new n) (line_at new n) (owed_in new n) q t) (party_laid hp)
       ∙ ap (λ z. posted p z (line_at new n) (owed_in new n) q t) (serial_laid hs)
@@ -145,7 +124,7 @@ written_more old b ls n l e h =
     ∙ sym (append_assoc (encoded ls) (record_of l.party l.serial l.line) (drop (16 * suc (length ls)) old))
 
 -- a line that is not the last stays, and so does what is known of all before
-pub line_kept : (b c : List ℕ) (n k : ℕ) → ((i : ℕ) → i < 16 * n → get_or b i 0 ≡ get_or c i 0) → k < n → line_at b k ≡ line_at c k
+line_kept : (b c : List ℕ) (n k : ℕ) → ((i : ℕ) → i < 16 * n → get_or b i 0 ≡ get_or c i 0) → k < n → line_at b k ≡ line_at c k
 line_kept b c n k h l = ap (to_z w64) (long_eq b c (16 * k + 8) (λ j m. h (16 * k + 8 + j) (omega arith)))
 
 -- sums of lines are far from the limits of 64 bits
@@ -158,34 +137,22 @@ owed_size b (suc n) h p s =
     picked true z l = l
     picked false z l = omega arith
 
--- what is known of the records written stays while the next one is laid
+-- what is known of the records written
 pub record Sure (b : List ℕ) (written : ℕ) : Type 0 where
   pub inside : written ≤ records_in b
   pub lines : (k : ℕ) → k < written → nat_abs (line_at b k) ≤ 200000000000
   pub debts : (p s : ℕ) → le_z (owed_in b written p s) (pos 0) ≡ true
   pub sizes : magnitudes (owed_in b written) ≤ written * 200000000000
 
-pub sure_laying : (b : List ℕ) (n : ℕ) (x : List ℕ) (k : ℕ) → length x ≡ 16 → k ≤ 16 → n < records_in b → Sure b n → Sure (laid_to b (16 * n) x k) n
-sure_laying b n x k long m room sure =
-    let fits : 16 * n + k ≤ length b = omega arith in
-    let same : (i : ℕ) → i < 16 * n → get_or (laid_to b (16 * n) x k) i 0 ≡ get_or b i 0 = λ i l. lay_before b (16 * n) x k i fits l in
-    record {
-      inside = rw (lay_length b (16 * n) x k fits (omega (arith, long))) sure.inside;
-      lines = λ j l. rw (line_kept (laid_to b (16 * n) x k) b n j same l) (sure.lines j l);
-      debts = λ p s. rw (owed_kept (laid_to b (16 * n) x k) b n same p s) (sure.debts p s);
-      sizes = omega (arith, magnitudes_eq (owed_in (laid_to b (16 * n) x k) n) (owed_in b n) (owed_kept (laid_to b (16 * n) x k) b n same), sure.sizes);
-    }
-
-pub sure_more : (b : List ℕ) (n p s : ℕ) (line : ℤ) (left : ℕ) → p < 65536 → s < 65536 → SFits w64 line → n < records_in b → Sound p s line left → Sure b n → Sure (laid b n (record_of p s line)) (suc n)
+sure_more : (b : List ℕ) (n p s : ℕ) (line : ℤ) (left : ℕ) → p < 65536 → s < 65536 → SFits w64 line → n < records_in b → Sound p s line left → Sure b n → Sure (laid b n (record_of p s line)) (suc n)
 sure_more b n p s line left hp hs f room x sure =
     let fits : 16 * n + 16 ≤ length b = omega arith in
-    let here = sure_laying b n (record_of p s line) 16 refl (omega arith) room sure in
-    let now-is = laid_is b n (record_of p s line) refl in
+    let kept : (k : ℕ) → k < n → line_at (laid b n (record_of p s line)) k ≡ line_at b k = λ k l. line_kept (laid b n (record_of p s line)) b n k (λ i h. laid_before b n (record_of p s line) i fits h) l in
     record {
-      inside = rw (sym now-is) (omega (arith, lay_length b (16 * n) (record_of p s line) 16 fits (omega arith)));
+      inside = omega (arith, laid_length b n (record_of p s line) fits refl);
       lines = λ k l.
           ⊎_elim
-          (λ (e : k < n). rw (sym now-is) (here.lines k e))
+          (λ (e : k < n). rw (kept k e) (sure.lines k e))
           (λ (e : n ≤ k).
           let last : k ≡ n = omega arith in
           rw last (rw (line_laid b n p s line fits f) x.size))
@@ -194,19 +161,40 @@ sure_more b n p s line left hp hs f room x sure =
       sizes = omega (arith, sizes_more p s line left n (owed_in b n) (owed_in (laid b n (record_of p s line)) (suc n)) x (owed_more b n p s line fits hp hs f) sure.sizes);
     }
 
--- a record that is laid as a whole
-pub laid_whole : (b c x : List ℕ) (n k p s : ℕ) (line : ℤ) → c ≡ laid_to b (16 * n) x k → k ≡ 16 → x ≡ record_of p s line → c ≡ laid b n (record_of p s line)
-laid_whole b c x n k p s line h e f =
-    h
-    ∙ ap (laid_to b (16 * n) x) e
-    ∙ ap (λ y. laid_to b (16 * n) y 16) f
-    ∙ laid_is b n (record_of p s line) refl
+-- a record that is written over a part of the bytes
+pub put_laid : (b x : List ℕ) (n p s : ℕ) (line : ℤ) → 16 * n + 16 ≤ length b → x ≡ record_of p s line → put_mid (16 * n) (16 * n + 16 - 16 * n) b x ≡ laid b n (record_of p s line)
+put_laid b x n p s line fits e =
+    let part : 16 * n + 16 - 16 * n ≡ 16 = omega arith in
+    let long : length x ≡ 16 = ap length e in
+    ap (λ k. put_mid (16 * n) k b x) part
+    ∙ sym (take-append-drop (16 * n + 16) (put_mid (16 * n) 16 b x))
+    ∙ ap (λ y. y ++ drop (16 * n + 16) (put_mid (16 * n) 16 b x)) (take-put_mid (16 * n) 16 b x (16 * n + 16) (omega (arith, long)) (omega arith))
+    ∙ ap (λ y. (take (16 * n) b ++ x) ++ y) (drop-put_mid (16 * n) 16 b x (16 * n + 16) (omega arith) (omega arith) long)
+    ∙ append_assoc (take (16 * n) b) x (drop (16 * n + 16) b)
+    ∙ ap (laid b n) e
+
+-- a journal's bytes after a post that was taken
+pub record Written (b c : List ℕ) (n p s : ℕ) (line : ℤ) : Type 0 where
+  pub bytes : c ≡ laid b n (record_of p s line)
+  pub sure : Sure c (n + 1)
+  pub amounts : (q t : ℕ) → owed_in c (n + 1) q t ≡ posted p s line (owed_in b n) q t
+
+-- from what the calls of the post say: the line is as the code keeps it
+pub written : (b x y : List ℕ) (n p s : ℕ) (line : ℤ) (left : ℕ) → SFits w64 line → p < 65536 → s < 65536 → Sure b n → None ≡ post_fault p s (to_z w64 (of_z w64 line)) left → left ≡ records_in b - n → x ≡ y → y ≡ record_of p s (to_z w64 (of_z w64 line)) → Written b (put_mid (16 * n) (16 * n + 16 - 16 * n) b x) n p s line
+written b x y n p s line left f hp hs sure none room copied e =
+    let same : to_z w64 (of_z w64 line) ≡ line = to_z-of_z w64 line f in
+    let sound-is : Sound p s line left = sound p s line left (sym (none ∙ ap (λ z. post_fault p s z left) same)) in
+    let few : n < records_in b = omega (arith, sound-is.some) in
+    let new : put_mid (16 * n) (16 * n + 16 - 16 * n) b x ≡ laid b n (record_of p s line) = put_laid b x n p s line (omega arith) (copied ∙ e ∙ ap (record_of p s) same) in
+    let next : n + 1 ≡ suc n = add-one n in
+    record {
+      bytes = new;
+      sure = rw (new, next) (sure_more b n p s line left hp hs f few sound-is sure);
+      amounts = λ q t. rw (new, next) (owed_more b n p s line (omega arith) hp hs f q t);
+    }
 
 pub holds_laid : (b c old : List ℕ) (n m : ℕ) (h : List Event) (l : Post) → c ≡ laid b n (record_of l.party l.serial l.line) → m ≡ suc n → JournalHolds h old b n → JournalHolds (accepted l ∷ h) old c m
 holds_laid b c old n m h l e f g = record { lines = f ∙ ap suc g.lines; bytes = e ∙ written_more old b (lines_in h) n l g.lines g.bytes }
-
-pub laid_length : (b : List ℕ) (n p s : ℕ) (line : ℤ) → 16 * n + 16 ≤ length b → length (laid b n (record_of p s line)) ≡ length b
-laid_length b n p s line fits = ap length (sym (laid_is b n (record_of p s line) refl)) ∙ lay_length b (16 * n) (record_of p s line) 16 fits (omega arith)
 
 -- one record more in the sum
 pub owed_next : (b : List ℕ) (k p s : ℕ) (e : Entry) (line : ℤ) → EntryAt b k e → line ≡ cond (eqb p e.party && eqb s e.serial) e.line (pos 0) → owed_in b (k + 1) p s ≡ owed_in b k p s +ℤ line

@@ -1,3 +1,4 @@
 pub mod Journals
 pub mod Postings
+pub mod Records
 pub mod Tables

@@ -1,11 +1,13 @@
 -- The places of a table.
-use Rattle.std.proofs.Common.{◌≡◌, ℕ, suc, ◌-◌, ◌<◌, ◌≤◌, Bool, true, false, cond, ◌&&◌, eqb, List, length, get_or, set, replicate, ℤ, pos, ◌+ℤ◌, nat_abs, sym, refl, ap, ◌∙◌, ⊎_elim, arith, w64, SFits, to_z, of_z}
+use Rattle.std.proofs.Common.{◌≡◌, ℕ, suc, ◌+◌, ◌-◌, ◌*◌, ◌<◌, ◌≤◌, Bool, true, false, cond, ◌&&◌, eqb, List, length, get_or, set, replicate, ℤ, pos, ◌+ℤ◌, nat_abs, sym, refl, ap, ◌∙◌, ⊎_elim, None, arith, w64, SFits, to_z, of_z}
 use Rattle.std.proofs.lemmas.List.{get_or-set_same, get_or-set_other, get_or-replicate, get_or_past, length-replicate}
 use Rattle.std.proofs.lemmas.Bool.{and_from, and_parts, cases_Bool, cases_lt, cond-true, cond-false, eq-eqb, eqb-true, true≢false}
 use Rattle.foundation.proofs.Signed.{sum_fits, sum_is}
-use Rattle.ledger.specs.Amounts.{is_amount, magnitudes, posted}
+use lib.Signed.{le_z}
+use Rattle.std.proofs.lemmas.Int.{to_z-of_z}
+use Rattle.ledger.specs.Amounts.{is_amount, magnitudes, posted, post_fault}
 use Rattle.ledger.specs.Table.{amounts_of, place_of}
-use Rattle.ledger.proofs.Postings.{Sound, amount_le, party_in, serial_least, serial_most, none_more}
+use Rattle.ledger.proofs.Postings.{Sound, sound, debt_more, sizes_more, amount_le, party_in, serial_least, serial_most, none_more}
 
 pub place_in : (p s : ℕ) → is_amount p s ≡ true → place_of p s < 2048
 place_in p s h = omega (arith, party_in p s h, serial_least p s h, serial_most p s h)
@@ -94,3 +96,24 @@ put_is xs p s place line left e l all x q t =
     ap (λ z. amounts_of (set xs place z) q t) sum
     ∙ ap (λ n. amounts_of (set xs n (get_or xs n (pos 0) +ℤ line)) q t) e
     ∙ amount_put xs p s line (rw (sym e) l) x.amount q t
+
+-- a table's amounts after a post that was taken
+pub record Added (xs ys : List ℤ) (n p s : ℕ) (line : ℤ) : Type 0 where
+  pub room : n + 1 ≤ 1000000
+  pub amounts : (q t : ℕ) → amounts_of ys q t ≡ posted p s line (amounts_of xs) q t
+  pub debts : (q t : ℕ) → le_z (amounts_of ys q t) (pos 0) ≡ true
+  pub sizes : magnitudes (amounts_of ys) ≤ (n + 1) * 200000000000
+
+-- from what the calls of the post say: the line is as the code keeps it
+pub posted_sound : (p s : ℕ) (line : ℤ) (left : ℕ) → SFits w64 line → None ≡ post_fault p s (to_z w64 (of_z w64 line)) left → Sound p s line left
+posted_sound p s line left f none = sound p s line left (sym (none ∙ ap (λ z. post_fault p s z left) (to_z-of_z w64 line f)))
+
+pub added : (xs : List ℤ) (n p s place : ℕ) (line : ℤ) (left : ℕ) → Sound p s line left → left ≡ 1000000 - n → place ≡ place_of p s → place < length xs → ((q t : ℕ) → le_z (amounts_of xs q t) (pos 0) ≡ true) → magnitudes (amounts_of xs) ≤ n * 200000000000 → n ≤ 1000000 → Added xs (set xs place (stored (get_or xs place (pos 0)) line)) n p s line
+added xs n p s place line left x room e l debts sizes few =
+    let new = put_is xs p s place line left e l (omega arith) x in
+    record {
+      room = omega (arith, x.some);
+      amounts = new;
+      debts = λ q t. rw (new q t) (debt_more _ (amounts_of xs q t) line (debts q t) x.debt);
+      sizes = sizes_more p s line left n (amounts_of xs) _ x new sizes;
+    }

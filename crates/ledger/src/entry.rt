@@ -3,7 +3,7 @@ pub mod reading;
 
 pub const RECORD_BYTES: usize = 16;
 
-#[derive(Clone, Copy)]
+#[derive(Clone, Copy, PartialEq, Eq, Debug)]
 pub struct Entry {
     pub party: u16,
     pub serial: u16,

@@ -1,7 +1,7 @@
 // What every ledger shows: an amount for each party and serial, and a number of lines left.
 ghost use Rattle.std.specs.Prelude.{◌≡◌, ℕ, ◌≤◌, true, List, ◌∷◌, ℤ, is_err};
 ghost use Rattle.foundation.specs.Fault.{refusal};
-ghost use Rattle.ledger.specs.Amounts.{Bounded, Falls, after_post, post_fault, seen};
+ghost use Rattle.ledger.specs.Amounts.{Bounded, Falls, after_post, is_amount, is_debit, post_fault, seen};
 ghost use Rattle.ledger.specs.Posts.{Event, Holds, called_post, lines_in, sum_of};
 
 use foundation::fault::{Fault, Layer, Refusal};
@@ -20,10 +20,6 @@ pub trait Ledger {
     // The lines left.
     ghost room: { Self → ℕ };
 
-    ghost bounded: { (x : Self) → Bounded (owed x) };
-
-    ghost few: { (x : Self) → room x ≤ 1000000 };
-
     // Adds a line to one amount.
     fn post(&mut self, party: u16, serial: u16, line: i64) -> Result<(), Fault>
         ensures answer { refusal result ≡ post_fault party serial line (room self.old) }
@@ -39,16 +35,31 @@ pub trait Ledger {
 
     fn lines_left(&self) -> u32
         ensures { result ≡ room self.now };
+
+    ghost bounded: { (x : Self) → Bounded (owed x) };
+
+    ghost few: { (x : Self) → room x ≤ 1000000 };
+}
+
+// Whether there is an amount of this party and serial.
+pub(crate) fn is_amount(party: u16, serial: u16) -> bool
+    ensures { result ≡ is_amount party serial }
+{
+    party < PARTIES && (1..=SERIALS).contains(&serial)
+}
+
+// Whether a line is a debit of a size that can be posted.
+pub(crate) fn is_debit(line: i64) -> bool
+    ensures { result ≡ is_debit line }
+{
+    (-LARGEST_LINE..=0).contains(&line)
 }
 
 // The first fault of a post where so many lines are left.
 pub(crate) fn check_post(party: u16, serial: u16, line: i64, left: u32) -> Result<(), Fault>
     ensures { refusal result ≡ post_fault party serial line left }
 {
-    if party >= PARTIES || serial < 1 || serial > SERIALS {
-        return Err(Layer::Ledger.fault(Refusal::OutOfRange, 0));
-    }
-    if line > 0 || line < -LARGEST_LINE {
+    if !is_amount(party, serial) || !is_debit(line) {
         return Err(Layer::Ledger.fault(Refusal::OutOfRange, 0));
     }
     if left < 1 {

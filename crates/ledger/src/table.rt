@@ -6,13 +6,14 @@ ghost use Rattle.ledger.specs.Limits.{left_few, within_limit};
 ghost use Rattle.ledger.specs.Posts.{Event, Holds, called_post, lines_in};
 ghost use Rattle.ledger.specs.Table.{TableHolds, amounts_of, place_of};
 
-use crate::posting::{Ledger, PARTIES, SERIALS, check_post};
+use crate::posting::{Ledger, SERIALS, check_post, is_amount};
 use foundation::fault::Fault;
 
 // The lines that a table takes.
 pub const CAPACITY: u32 = 1_000_000;
 
-// The amounts of party 0 under serials 1 to 32, then those of party 1, and so on.
+// The amounts of party 0 under serials 1 to 32, then those of party 1, and so on. They are one array, as a proof knows its
+// length, and not that of an array in an array.
 #[derive(Drop)]
 pub struct Table {
     amounts: [i64; 2048],
@@ -49,10 +50,6 @@ impl Ledger for Table {
 
     ghost room = { λ t. 1000000 - t.posted };
 
-    ghost bounded = { λ t. within_limit (amounts_of t.amounts) t.posted t.debts t.sizes t.few };
-
-    ghost few = { λ t. left_few t.posted };
-
     fn post(&mut self, party: u16, serial: u16, line: i64) -> Result<(), Fault>
         ensures answer { refusal result ≡ post_fault party serial line (1000000 - self.old.posted) }
         ensures amounts { (p s : ℕ) → amounts_of self.new.amounts p s ≡ after_post result party serial line (amounts_of self.old.amounts) p s }
@@ -68,7 +65,7 @@ impl Ledger for Table {
     }
 
     fn amount(&self, party: u16, serial: u16) -> i64 {
-        if party >= PARTIES || serial < 1 || serial > SERIALS {
+        if !is_amount(party, serial) {
             return 0;
         }
         self.amounts[place_of(party, serial)]
@@ -80,4 +77,8 @@ impl Ledger for Table {
     {
         CAPACITY - self.posted
     }
+
+    ghost bounded = { λ t. within_limit (amounts_of t.amounts) t.posted t.debts t.sizes t.few };
+
+    ghost few = { λ t. left_few t.posted };
 }

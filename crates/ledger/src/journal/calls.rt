@@ -7,9 +7,8 @@ ghost use Rattle.ledger.specs.Limits.{journal_few, journal_limit};
 ghost use Rattle.ledger.specs.Posts.{Event, Holds, called_post, lines_in, sum_of};
 
 use super::{Journal, MOST_RECORDS};
-use crate::entry::reading::{encoded, read};
 use crate::entry::{Entry, RECORD_BYTES};
-use crate::posting::{Ledger, PARTIES, SERIALS, check_post};
+use crate::posting::{Ledger, check_post, is_amount};
 use foundation::fault::Fault;
 
 fn records_in(bytes: &[u8]) -> usize
@@ -51,10 +50,6 @@ impl<'a> Ledger for Journal<'a> {
 
     ghost room = { λ j. records_in j.bytes.now - j.written };
 
-    ghost bounded = { λ j. journal_limit j.bytes.now j.written j.debts j.sizes j.inside };
-
-    ghost few = { λ j. journal_few j.bytes.now j.written };
-
     fn post(&mut self, party: u16, serial: u16, line: i64) -> Result<(), Fault>
         ensures answer { refusal result ≡ post_fault party serial line (records_in self.old.bytes.now - self.old.written) }
         ensures amounts { (p s : ℕ) → owed_in self.new.bytes.now self.new.written p s ≡ after_post result party serial line (owed_in self.old.bytes.now self.old.written) p s }
@@ -65,23 +60,27 @@ impl<'a> Ledger for Journal<'a> {
         ensures written { (h : List Event) (old : List ℕ) → JournalHolds h old self.old.bytes.now self.old.written → JournalHolds (called_post result party serial line ∷ h) old self.new.bytes.now self.new.written }
     {
         check_post(party, serial, line, self.lines_left())?;
-        let record = encoded(party, serial, line);
+        let entry = Entry {
+            party,
+            serial,
+            zero: 0,
+            line,
+        };
         let start = RECORD_BYTES * self.written;
-        for k in 0..RECORD_BYTES {
-            self.bytes[start + k] = record[k];
-        }
+        self.bytes[start..start + RECORD_BYTES].copy_from_slice(&entry.bytes());
         self.written += 1;
         Ok(())
     }
 
     fn amount(&self, party: u16, serial: u16) -> i64 {
-        if party >= PARTIES || serial < 1 || serial > SERIALS {
+        if !is_amount(party, serial) {
             return 0;
         }
         let bytes = &*self.bytes;
+        let (records, _) = bytes.as_chunks::<16>();
         let mut sum = 0;
-        for k in 0..self.written {
-            sum += line_of(read(bytes, k), party, serial);
+        for record in &records[..self.written] {
+            sum += line_of(Entry::from(*record), party, serial);
         }
         sum
     }
@@ -90,4 +89,8 @@ impl<'a> Ledger for Journal<'a> {
         let bytes = &*self.bytes;
         (records_in(bytes) - self.written) as u32
     }
+
+    ghost bounded = { λ j. journal_limit j.bytes.now j.written j.debts j.sizes j.inside };
+
+    ghost few = { λ j. journal_few j.bytes.now j.written };
 }

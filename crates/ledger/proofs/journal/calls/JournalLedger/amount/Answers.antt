@@ -1,34 +1,33 @@
-use Rattle.std.proofs.Common.{◌≡◌, true, sym, ap, ◌∙◌, arith}
-use Rattle.std.proofs.lemmas.Bool.{and_from, cond-true, le-leb, lt-ltb}
+use Rattle.std.proofs.Common.{◌/◌, ◌<◌, ◌≤◌, length, sym, ◌∙◌, arith}
+use Rattle.std.proofs.lemmas.List.{length-take-le}
 use Rattle.foundation.proofs.Signed.{running_fits, running_is}
-use Rattle.ledger.specs.Amounts.{is_amount}
 use Rattle.ledger.specs.Journal.{owed_in}
 use Rattle.ledger.proofs.Journals.{line_size, owed_next, owed_size}
-use Rattle.ledger.proofs.Postings.{holds_seen}
+use Rattle.ledger.proofs.Records.{entry_taken}
 use Rattle.ledger.proofs.journal.calls.JournalLedger.amount.Goals as goal
 
 pub overflow_add-sum : goal.overflow_add-sum
 overflow_add-sum c =
-    let b = c.args.self.now.bytes.now in
-    let few = c.loop-k-test.true in
-    let sum = owed_size b c.loop-k.k (λ k l. c.args.self.now.lines k (omega (arith, l, few))) c.args.party c.args.serial in
-    let line = line_size b c.loop-k.k _ c.read.result c.line_of-sum.result c.read.ensures c.line_of-sum.ensures (c.args.self.now.lines c.loop-k.k few) in
-    rw c.loop-k.invariant (running_fits (owed_in b c.loop-k.k c.args.party c.args.serial) c.line_of-sum.result (omega (arith, sum, few, c.args.self.now.inside)) (omega (arith, line)))
+    let self = c.args.self.now in
+    let b = self.bytes.now in
+    let k = c.loop-record.record-index in
+    let room : self.written ≤ length b / 16 = omega (arith, self.inside) in
+    let few : k < self.written = omega (arith, length-take-le self.written c.as_chunks.result.0.now (omega (arith, c.as_chunks.ensures.front_len)), c.loop-record-test.true) in
+    let at = entry_taken b c.as_chunks.result.0.now (length b / 16) self.written k c.from.result c.as_chunks.ensures.front room few c.from.ensures in
+    let sum = owed_size b k (λ j l. self.lines j (omega (arith, l, few))) c.args.party c.args.serial in
+    let line = line_size b k _ c.from.result c.line_of-sum.result at c.line_of-sum.ensures (self.lines k few) in
+    rw c.loop-record.invariant (running_fits (owed_in b k c.args.party c.args.serial) c.line_of-sum.result (omega (arith, sum, few, self.inside)) (omega (arith, line)))
 
-pub loop-k-preserved : goal.loop-k-preserved
-loop-k-preserved c =
-    let b = c.args.self.now.bytes.now in
-    let few = c.loop-k-test.true in
-    let sum = owed_size b c.loop-k.k (λ k l. c.args.self.now.lines k (omega (arith, l, few))) c.args.party c.args.serial in
-    let line = line_size b c.loop-k.k _ c.read.result c.line_of-sum.result c.read.ensures c.line_of-sum.ensures (c.args.self.now.lines c.loop-k.k few) in
-    rw c.loop-k.invariant
-    (running_is (owed_in b c.loop-k.k c.args.party c.args.serial) c.line_of-sum.result (omega (arith, sum, few, c.args.self.now.inside)) (omega (arith, line))
-    ∙ sym (owed_next b c.loop-k.k c.args.party c.args.serial c.read.result c.line_of-sum.result c.read.ensures c.line_of-sum.ensures))
-
-pub returns : goal.returns
-returns c =
-    let b = c.args.self.now.bytes.now in
-    let end : c.loop-k.k ≡ c.args.self.now.written = omega (arith, c.loop-k-test.false, c.loop-k.auto.k-end) in
-    let there : is_amount c.args.party c.args.serial ≡ true = and_from _ _ (lt-ltb _ _ c.if-party-ge-PARTIES.false) (and_from _ _ (le-leb _ _ c.if-serial-lt1.false) (le-leb _ _ c.if-serial-gt-SERIALS.false)) in
-    let answer = c.loop-k.invariant ∙ ap (λ n. owed_in b n c.args.party c.args.serial) end ∙ sym (cond-true (is_amount c.args.party c.args.serial) _ _ there) in
-    record { answer = answer; history = λ h g. answer ∙ holds_seen (owed_in b c.args.self.now.written) h g c.args.party c.args.serial }
+pub loop-record-preserved : goal.loop-record-preserved
+loop-record-preserved c =
+    let self = c.args.self.now in
+    let b = self.bytes.now in
+    let k = c.loop-record.record-index in
+    let room : self.written ≤ length b / 16 = omega (arith, self.inside) in
+    let few : k < self.written = omega (arith, length-take-le self.written c.as_chunks.result.0.now (omega (arith, c.as_chunks.ensures.front_len)), c.loop-record-test.true) in
+    let at = entry_taken b c.as_chunks.result.0.now (length b / 16) self.written k c.from.result c.as_chunks.ensures.front room few c.from.ensures in
+    let sum = owed_size b k (λ j l. self.lines j (omega (arith, l, few))) c.args.party c.args.serial in
+    let line = line_size b k _ c.from.result c.line_of-sum.result at c.line_of-sum.ensures (self.lines k few) in
+    rw c.loop-record.invariant
+    (running_is (owed_in b k c.args.party c.args.serial) c.line_of-sum.result (omega (arith, sum, few, self.inside)) (omega (arith, line))
+    ∙ sym (owed_next b k c.args.party c.args.serial c.from.result c.line_of-sum.result at c.line_of-sum.ensures))
