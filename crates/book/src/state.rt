@@ -3,14 +3,14 @@ use foundation::interval::WeekInterval;
 
 pub(crate) mod table;
 
-#[derive(Clone, Copy)]
+#[derive(Clone, Copy, PartialEq, Eq, Debug)]
 pub enum Kind {
     Regulation,
     Delayed,
 }
 
 // What a number stands for until it is withdrawn.
-#[derive(Clone, Copy)]
+#[derive(Clone, Copy, PartialEq, Eq, Debug)]
 pub struct Declaration {
     pub serial: u16,
     pub kind: Kind,
@@ -20,13 +20,13 @@ pub struct Declaration {
 }
 
 // The figures of an open claim, beside its number and serial.
-#[derive(Clone, Copy)]
+#[derive(Clone, Copy, PartialEq, Eq, Debug)]
 pub struct Pending {
     pub interval: WeekInterval,
     pub part: u64,
 }
 
-#[derive(Clone, Copy)]
+#[derive(Clone, Copy, PartialEq, Eq, Debug)]
 pub enum State {
     Free,
     Declared(Declaration),

@@ -10,7 +10,7 @@ use energy::island::in_set;
 const REGULATION: u8 = 1;
 
 // All three as the caller gives them; the claim refuses what is out of range.
-#[derive(Clone, Copy)]
+#[derive(Clone, Copy, PartialEq, Eq, Debug)]
 pub struct Term {
     pub region: u8,
     pub service: u8,
