@@ -8,10 +8,12 @@ ghost use Rattle.recovery.specs.Shares.{basis_of, lines_for};
 ghost use Rattle.recovery.specs.Split.{Parted, energy_of, share_in};
 
 use crate::weights::{ALL_REGIONS, RESIDUAL, Weights};
+use energy::figures::Figures;
 use energy::source::{EnergySource, PARTIES};
-use foundation::division::divide;
+use foundation::division::shares;
 use foundation::fault::{Fault, Layer, Refusal};
 use sampling::factors::Factors;
+use std::array;
 
 // The largest part that one recovery takes, in ticks.
 pub const LARGEST_PART: u64 = 200_000_000_000;
@@ -33,11 +35,7 @@ fn joined(of_causers: &[u64; 65], of_customers: &[u64; 64]) -> [u64; 64]
     requires { (p : ℕ) → p < 64 → listed of_causers.now p + listed of_customers.now p < 2 ^ 64 }
     ensures { (p : ℕ) → p < 64 → listed result p ≡ listed of_causers.now p + listed of_customers.now p }
 {
-    let mut shares = [0; 64];
-    for p in 0..64 {
-        shares[p] = of_causers[p] + of_customers[p];
-    }
-    shares
+    array::from_fn(|party| of_causers[party] + of_customers[party])
 }
 
 impl Split {
@@ -50,11 +48,9 @@ impl Split {
         ensures borne { result.residual_part ≡ share part 65 (listed weights.causers) 64 }
         ensures kept { (result.energies ≡ weights.energies) × (result.cmpf ≡ weights.cmpf) × (result.crmpf ≡ weights.crmpf) × (result.residual_energy ≡ weights.residual_energy) }
     {
-        let mut of_causers = [0; 65];
-        divide(part, &weights.causers, &mut of_causers);
+        let of_causers = shares(part, &weights.causers);
         let residual_part = of_causers[RESIDUAL];
-        let mut of_customers = [0; 64];
-        divide(residual_part, &weights.customers, &mut of_customers);
+        let of_customers = shares(residual_part, &weights.customers);
         Split {
             shares: joined(&of_causers, &of_customers),
             energies: weights.energies,
@@ -81,7 +77,9 @@ impl Split {
         if regions < 1 || regions > ALL_REGIONS {
             return Err(Layer::Book.fault(Refusal::OutOfRange, 0));
         }
-        let weights = Weights::of(regions, factors, source);
+        // Asks the source for each figure once.
+        let figures = Figures::copied(source);
+        let weights = Weights::of(regions, factors, figures);
         if weights.cmpf == 0 && weights.crmpf == 0 {
             return Err(Layer::Book.fault(Refusal::NobodyToPay, 0));
         }
@@ -140,12 +138,6 @@ impl Split {
     pub fn lines(&self) -> u32
         ensures { result ≡ lines_for (listed self.now.shares) 64 }
     {
-        let mut lines = 0;
-        for share in &self.shares {
-            if *share > 0 {
-                lines += 1;
-            }
-        }
-        lines
+        self.shares.iter().filter(|share| **share > 0).count() as u32
     }
 }
