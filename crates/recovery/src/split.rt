@@ -9,7 +9,7 @@ ghost use Rattle.recovery.specs.Split.{Parted, energy_of, share_in};
 
 use crate::weights::{ALL_REGIONS, RESIDUAL, Weights};
 use energy::figures::Figures;
-use energy::source::{EnergySource, PARTIES};
+use energy::source::EnergySource;
 use foundation::division::shares;
 use foundation::fault::{Fault, Layer, Refusal};
 use sampling::factors::Factors;
@@ -90,20 +90,14 @@ impl Split {
     pub fn share(&self, party: u16) -> u64
         ensures { result ≡ share_in self.now party }
     {
-        if party >= PARTIES {
-            return 0;
-        }
-        self.shares[party as usize]
+        self.shares.get(usize::from(party)).copied().unwrap_or(0)
     }
 
     // A party's energy in the regions, 0 out of range.
     pub fn energy(&self, party: u16) -> u64
         ensures { result ≡ energy_of self.now party }
     {
-        if party >= PARTIES {
-            return 0;
-        }
-        self.energies[party as usize]
+        self.energies.get(usize::from(party)).copied().unwrap_or(0)
     }
 
     // The factors of the causers.

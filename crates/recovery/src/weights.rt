@@ -92,7 +92,9 @@ fn customers(factors: &Factors, energies: &[u64; 64]) -> [u64; 64]
 fn with_residual(causers: &[u64; 64], crmpf: u64) -> [u64; 65]
     ensures { (k : ℕ) → k < 65 → listed result k ≡ (if nat_lt k 64 then listed causers.now k else crmpf) }
 {
-    array::from_fn(|k| *causers.get(k).unwrap_or(&crmpf))
+    let mut weights = [crmpf; 65];
+    weights[..RESIDUAL].copy_from_slice(causers);
+    weights
 }
 
 impl Weights {
