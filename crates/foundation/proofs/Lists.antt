@@ -3,6 +3,7 @@ use Rattle.std.specs.Prelude.{◌≡◌, ℕ, zero, suc, ◌+◌, ◌<◌, Bool,
 use Rattle.std.specs.List.{list_all, list_any, position, position_or_len}
 use Rattle.std.specs.Option.{option_map}
 use Rattle.std.proofs.Common.{refl, ap, ◌∙◌, sym, ⊎_elim, arith}
+use Rattle.std.proofs.Math.Bool.{and_assoc, and-true}
 use Rattle.std.proofs.lemmas.List.Sums.{sum_by-cons, fails_before_first, passes_at_first}
 use Rattle.std.proofs.lemmas.Bool.{cases_lt, lt-ltb, le-ltb}
 use Rattle.foundation.specs.Sums.{sum_to, listed}
@@ -15,16 +16,8 @@ pub sum_to_first : (n : ℕ) (f : ℕ → ℕ) → sum_to (suc n) f ≡ f 0 + su
 sum_to_first zero f = omega (arith, sum_to_more 0 f, sum_to_none f, sum_to_none (λ k. f (suc k)))
 sum_to_first (suc n) f = omega (arith, sum_to_more (suc n) f, sum_to_first n f, sum_to_more n (λ k. f (suc k)))
 
-and_assoc : (a b c : Bool) → ((a && b) && c) ≡ (a && (b && c))
-and_assoc true b c = refl
-and_assoc false b c = refl
-
-and_true : (a : Bool) → (a && true) ≡ a
-and_true true = refl
-and_true false = refl
-
 pub all_to_first : (n : ℕ) (p : ℕ → Bool) → all_to (suc n) p ≡ (p 0 && all_to n (λ k. p (suc k)))
-all_to_first zero p = all_to_more 0 p ∙ ap (λ t. t && p 0) (all_to_none p) ∙ sym (and_true (p 0)) ∙ ap (λ t. p 0 && t) (sym (all_to_none (λ k. p (suc k))))
+all_to_first zero p = all_to_more 0 p ∙ ap (λ t. t && p 0) (all_to_none p) ∙ sym (and-true (p 0)) ∙ ap (λ t. p 0 && t) (sym (all_to_none (λ k. p (suc k))))
 all_to_first (suc n) p =
     all_to_more (suc n) p ∙ ap (λ t. t && p (suc n)) (all_to_first n p) ∙ and_assoc (p 0) (all_to n (λ k. p (suc k))) (p (suc n))
     ∙ ap (λ t. p 0 && t) (sym (all_to_more n (λ k. p (suc k))))

@@ -6,6 +6,7 @@ use crate::fault::{Fault, Layer, Refusal};
 use crate::interval::{SampleInterval, WeekInterval};
 use std::test::Fail;
 
+#[tactic(auto, unfolding(crate::specs::Sums::sum_to))]
 fn shares_of(amount: u64, a: u64, b: u64, c: u64) -> [u64; 3]
     requires { a + b + c < 2 ^ 64 }
 {
