@@ -7,8 +7,9 @@ ghost use Rattle.recovery.specs.Recovery.{split_fault};
 ghost use Rattle.recovery.specs.Shares.{basis_of, lines_for};
 ghost use Rattle.recovery.specs.Split.{Parted, energy_of, share_in};
 
-use crate::weights::{ALL_REGIONS, RESIDUAL, Weights};
+use crate::weights::{RESIDUAL, Weights};
 use energy::figures::Figures;
+use energy::island::ALL_REGIONS;
 use energy::source::EnergySource;
 use foundation::division::shares;
 use foundation::fault::{Fault, Layer, Refusal};

@@ -7,13 +7,11 @@ ghost use Rattle.recovery.specs.Shares.{basis_of, held_in};
 ghost use Rattle.recovery.specs.Weights.{Weighed};
 
 use energy::figures::Figures;
-use energy::island::Island;
+use energy::island::{ALL_REGIONS, Island};
 use energy::source::{EnergySource, PARTIES, REGIONS};
 use foundation::division::{portion, total};
 use sampling::factors::Factors;
 use std::array;
-
-pub(crate) const ALL_REGIONS: u8 = 31;
 
 // The place of the residual, after the parties.
 pub(crate) const RESIDUAL: usize = 64;
