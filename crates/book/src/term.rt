@@ -31,9 +31,7 @@ pub(crate) fn first_outside(terms: &[Term], regions: u8) -> Option<usize>
     requires { (k : ℕ) → k < length terms.now → region_at terms.now k < 5 }
     ensures { outside_fault result ≡ outer_fault regions terms.now }
 {
-    terms
-        .iter()
-        .position(|term| !in_set(regions, term.region))
+    terms.iter().position(|term| !in_set(regions, term.region))
 }
 
 fn enabled(terms: &[Term]) -> u64
