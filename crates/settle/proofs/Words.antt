@@ -7,7 +7,7 @@ use Rattle.session.specs.declared.call.Call.TheVariants as call
 use Rattle.settle.specs.declared.sheet.Step.{Step}
 use Rattle.settle.specs.declared.sheet.Step.TheVariants as step
 use Rattle.settle.specs.Numbers.{Numbers}
-use Rattle.settle.specs.Sheet.{Parsed, texts, Asks, AsksAll}
+use Rattle.settle.specs.Sheet.{Parsed, ParsedAs, texts, Asks, AsksAll}
 use Rattle.settle.specs.Terms.{Heading}
 
 pub texts_push : (old new : List (Bor (List ℕ))) (word : Bor (List ℕ)) → new ≡ old ++ (word ∷ []) → texts new ≡ texts old ++ (word.now ∷ [])
@@ -52,10 +52,10 @@ module _ (all : List (List ℕ)) (keyword : List ℕ) (words : List (List ℕ)) 
 pub asked_by : (keyword named : List ℕ) (words : List (List ℕ)) (r : Result Step NoStep) → keyword ≡ named → Parsed (λ step. Asks named words step) r → Parsed (λ step. Asks keyword words step) r
 asked_by keyword named words r e h = rw e h
 
--- where what a step would need is refused, no step is asked for
-pub unasked : {U : Type 0} (P : U → Type 0) (named : List ℕ) (words : List (List ℕ)) (why : NoStep) → ((step : Step) → Asks named words step → (u : U) × P u) → Parsed {T = U} P (Err why) → Parsed {T = Step} (λ step. Asks named words step) (Err why)
-unasked P named words Unknown needed none = λ step asks. let n = needed step asks in none n.0 n.1
-unasked P named words NoMemory needed none = tt
+-- where a part that something would need is refused, it is refused itself
+pub refused : {S T U : Type 0} (P : S → Type 0) (held : T → U) (Q : U → Type 0) → ((u : U) → Q u → (s : S) × P s) → (why : NoStep) → Parsed P (Err why) → ParsedAs held Q (Err why)
+refused P held Q needed Unknown none = λ u q. let n = needed u q in none n.0 n.1
+refused P held Q needed NoMemory none = tt
 
 -- no number is written first where there is no word, or where the first word is refused as one
 pub none_first : (most : ℕ) (words : List (Bor (List ℕ))) → length words ≡ 0 → (n : ℕ) → Numbers most (take 1 (texts words)) (n ∷ []) → ⊥
