@@ -1,5 +1,6 @@
 -- Laws of the first finding.
 use Rattle.std.proofs.Common.{◌≡◌, ℕ, zero, suc, ◌<◌, ◌≤◌, Bool, true, false, ◌&&◌, Some, None, Option, refl, ap, ◌∙◌, ⊎_elim, arith}
+use Rattle.std.proofs.Math.Bool.{and-false}
 use Rattle.std.proofs.lemmas.Bool.{cases_lt}
 use Rattle.foundation.specs.First.{first_to, or_else, silent, all_to}
 
@@ -85,15 +86,11 @@ unfolding all_to
 all_to_all zero p h = refl
 all_to_all (suc n) p h = rw (all_to_all n p (λ k l. h k (omega arith))) (h n (omega arith))
 
-and_false : (a : Bool) → (a && false) ≡ false
-and_false true = refl
-and_false false = refl
-
 pub all_to_bad : (n : ℕ) (p : ℕ → Bool) (k : ℕ) → k < n → p k ≡ false → all_to n p ≡ false
 unfolding all_to
 all_to_bad zero p k h e = absurd (no_less k h)
 all_to_bad (suc n) p k h e =
     ⊎_elim
     (λ (l : k < n). ap (λ t. t && p n) (all_to_bad n p k l e))
-    (λ (l : n ≤ k). let same : n ≡ k = omega arith in ap (λ t. all_to n p && t) (ap p same ∙ e) ∙ and_false (all_to n p))
+    (λ (l : n ≤ k). let same : n ≡ k = omega arith in ap (λ t. all_to n p && t) (ap p same ∙ e) ∙ and-false (all_to n p))
     (cases_lt k n)

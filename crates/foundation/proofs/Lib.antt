@@ -1,4 +1,7 @@
+pub mod Arrays
+pub mod Chunks
 pub mod First
+pub mod Lists
 pub mod Shares
 pub mod Signed
 pub mod Sums

@@ -5,6 +5,7 @@ use Rattle.std.proofs.lemmas.Int.{ints}
 use Rattle.std.proofs.lemmas.Bool.{cases_lt}
 use Rattle.std.proofs.lemmas.Bool.Decides.{nat_tests}
 use Rattle.foundation.specs.Sums.{sum_to, sum_to_int}
+use Rattle.foundation.proofs.Signed.{nat_abs_add}
 
 pub sum_to_none : (f : ℕ → ℕ) → sum_to 0 f ≡ 0
 unfolding sum_to
@@ -90,9 +91,6 @@ pub sum_to_int_zero : (n : ℕ) (f : ℕ → ℤ) → ((k : ℕ) → k < n → f
 unfolding sum_to_int
 sum_to_int_zero zero f h = refl
 sum_to_int_zero (suc n) f h = omega (arith, ints, sum_to_int_zero n f (λ k l. h k (omega arith)), h n (omega arith))
-
-nat_abs_add : (a b : ℤ) → nat_abs (a +ℤ b) ≤ nat_abs a + nat_abs b
-nat_abs_add a b = omega (arith, ints)
 
 pub sum_to_int_abs : (n b : ℕ) (f : ℕ → ℤ) → ((k : ℕ) → k < n → nat_abs (f k) ≤ b) → nat_abs (sum_to_int n f) ≤ n * b
 unfolding sum_to_int

@@ -7,11 +7,7 @@ pub fn total(weights: &[u64]) -> u64
     requires { sum_to (length weights.now) (listed weights.now) < 2 ^ 64 }
     ensures { result ≡ sum_to (length weights.now) (listed weights.now) }
 {
-    let mut sum = 0;
-    for weight in weights {
-        sum += *weight;
-    }
-    sum
+    weights.iter().sum()
 }
 
 // ⌊amount × part / whole⌋, or 0 where whole is 0.
@@ -34,10 +30,20 @@ pub fn divide(amount: u64, weights: &[u64], shares: &mut [u64])
     let whole = total(weights);
     let mut reached = 0;
     let mut given = 0;
-    for k in 0..weights.len() {
-        reached += weights[k];
+    for (k, weight) in weights.iter().enumerate() {
+        reached += *weight;
         let next = portion(amount, reached, whole);
         shares[k] = next - given;
         given = next;
     }
+}
+
+// The shares of `amount` over `weights`.
+pub fn shares<const N: usize>(amount: u64, weights: &[u64; N]) -> [u64; N]
+    requires { sum_to N (listed weights.now) < 2 ^ 64 }
+    ensures { Divided amount N (listed weights.now) (listed result) }
+{
+    let mut shares = [0; N];
+    divide(amount, weights, &mut shares);
+    shares
 }

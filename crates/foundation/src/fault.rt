@@ -2,64 +2,46 @@
 ghost use Rattle.std.specs.Prelude.{◌≡◌};
 ghost use Rattle.foundation.specs.Fault.{number_of, layer_number};
 
+use std::error::Error;
 use std::fmt;
 
 // Each reason has a number, by which operators know it; docs/REFUSALS.md has the table.
-#[derive(Clone, Copy, PartialEq, Eq, Debug)]
+#[derive(Clone, Copy, PartialEq, Eq, PartialOrd, Ord, Debug)]
 pub enum Refusal {
-    WrongLength,
-    OutOfRange,
-    MissingSample,
-    Repeated,
-    UnexpectedUnit,
-    NothingSampled,
-    NoWeight,
-    AlreadyDeclared,
-    NotDeclared,
-    TooManyDeclarations,
-    ClaimOpen,
-    RegionNotDeclared,
-    WrongPart,
-    NoPart,
-    PaymentTooLarge,
-    ClaimNotOpen,
-    NobodyToPay,
-    TooFewLines,
-    TooMuchEnergy,
     // Want of memory: no fault of the input, so it stands outside the numbered table.
-    NoMemory,
+    NoMemory = 0,
+    WrongLength = 1,
+    OutOfRange = 2,
+    MissingSample = 3,
+    Repeated = 4,
+    UnexpectedUnit = 5,
+    NothingSampled = 6,
+    NoWeight = 7,
+    AlreadyDeclared = 8,
+    NotDeclared = 9,
+    TooManyDeclarations = 10,
+    ClaimOpen = 11,
+    RegionNotDeclared = 12,
+    WrongPart = 13,
+    NoPart = 14,
+    PaymentTooLarge = 15,
+    ClaimNotOpen = 16,
+    NobodyToPay = 17,
+    TooFewLines = 18,
+    TooMuchEnergy = 19,
 }
 
 impl Refusal {
     pub fn number(self) -> u8
         ensures { result ≡ number_of self }
     {
-        match self {
-            Refusal::WrongLength => 1,
-            Refusal::OutOfRange => 2,
-            Refusal::MissingSample => 3,
-            Refusal::Repeated => 4,
-            Refusal::UnexpectedUnit => 5,
-            Refusal::NothingSampled => 6,
-            Refusal::NoWeight => 7,
-            Refusal::AlreadyDeclared => 8,
-            Refusal::NotDeclared => 9,
-            Refusal::TooManyDeclarations => 10,
-            Refusal::ClaimOpen => 11,
-            Refusal::RegionNotDeclared => 12,
-            Refusal::WrongPart => 13,
-            Refusal::NoPart => 14,
-            Refusal::PaymentTooLarge => 15,
-            Refusal::ClaimNotOpen => 16,
-            Refusal::NobodyToPay => 17,
-            Refusal::TooFewLines => 18,
-            Refusal::TooMuchEnergy => 19,
-            Refusal::NoMemory => 0,
-        }
+        self as u8
     }
+}
 
-    fn words(self) -> &'static str {
-        match self {
+impl fmt::Display for Refusal {
+    fn fmt<W: fmt::Write>(&self, f: &mut fmt::Formatter<W>) -> fmt::Result {
+        f.write_str(match self {
             Refusal::WrongLength => "wrong length",
             Refusal::OutOfRange => "out of range",
             Refusal::MissingSample => "missing sample",
@@ -80,35 +62,23 @@ impl Refusal {
             Refusal::TooFewLines => "too few lines left",
             Refusal::TooMuchEnergy => "too much energy",
             Refusal::NoMemory => "out of memory",
-        }
+        })
     }
 }
 
-impl fmt::Display for Refusal {
-    fn fmt<W: fmt::Write>(&self, f: &mut fmt::Formatter<W>) -> fmt::Result {
-        let words = self.words();
-        f.write_str(words)
-    }
-}
-
-#[derive(Clone, Copy, PartialEq, Eq, Debug)]
+#[derive(Clone, Copy, PartialEq, Eq, PartialOrd, Ord, Debug)]
 pub enum Layer {
-    Samples,
-    Energies,
-    Book,
-    Ledger,
+    Samples = 1,
+    Energies = 2,
+    Book = 3,
+    Ledger = 4,
 }
 
 impl Layer {
     pub fn number(self) -> u8
         ensures { result ≡ layer_number self }
     {
-        match self {
-            Layer::Samples => 1,
-            Layer::Energies => 2,
-            Layer::Book => 3,
-            Layer::Ledger => 4,
-        }
+        self as u8
     }
 
     // A refusal found in this layer.
@@ -155,3 +125,5 @@ impl fmt::Display for Fault {
         )
     }
 }
+
+impl Error for Fault {}

@@ -1,54 +1,34 @@
 // Dispatch intervals of five minutes, of two kinds that are never taken for one another.
 ghost use Rattle.std.specs.Prelude.{◌≡◌, ◌<◌, ◌≤◌, MatchOption};
 
-// An interval of the sample period of 28 days.
-#[derive(Clone, Copy, PartialEq, Eq, Debug)]
-pub struct SampleInterval {
+// An interval of a period, by its number from 0 to LAST.
+#[derive(Clone, Copy, PartialEq, Eq, PartialOrd, Ord, Debug)]
+pub struct Interval<const LAST: u16> {
     number: u16,
-    ghost within: { number ≤ 8063 },
+    ghost within: { number ≤ LAST },
 }
 
-impl SampleInterval {
-    pub const LAST: u16 = 8_063;
-
-    pub fn new(number: u16) -> Option<SampleInterval>
-        ensures { MatchOption result (8063 < number) (λ i. i.number ≡ number) }
-    {
-        if number > SampleInterval::LAST {
-            return None;
-        }
-        Some(SampleInterval { number })
-    }
-
-    pub fn number(self) -> u16
-        ensures { result ≡ self.number }
-    {
-        self.number // in the sample period
-    }
-}
+// An interval of the sample period of 28 days.
+pub type SampleInterval = Interval<8_063>;
 
 // An interval of the billing week.
-#[derive(Clone, Copy, PartialEq, Eq, Debug)]
-pub struct WeekInterval {
-    number: u16,
-    ghost within: { number ≤ 2015 },
-}
+pub type WeekInterval = Interval<2_015>;
 
-impl WeekInterval {
-    pub const LAST: u16 = 2_015;
+impl<const LAST: u16> Interval<LAST> {
+    pub const LAST: u16 = LAST;
 
-    pub fn new(number: u16) -> Option<WeekInterval>
-        ensures { MatchOption result (2015 < number) (λ i. i.number ≡ number) }
+    pub fn new(number: u16) -> Option<Interval<LAST>>
+        ensures { MatchOption result (LAST < number) (λ i. i.number ≡ number) }
     {
-        if number > WeekInterval::LAST {
+        if number > LAST {
             return None;
         }
-        Some(WeekInterval { number })
+        Some(Interval { number })
     }
 
     pub fn number(self) -> u16
-        ensures { result ≡ self.number }
+        ensures { result ≡ self.entry.number }
     {
-        self.number // in the week
+        self.number
     }
 }

@@ -1,17 +1,16 @@
 // Worked figures, run as they stand.
 ghost use Rattle.std.specs.Prelude.{◌+◌, ◌^◌, ◌<◌};
 
-use crate::division::divide;
+use crate::division::shares;
 use crate::fault::{Fault, Layer, Refusal};
 use crate::interval::{SampleInterval, WeekInterval};
 use std::test::Fail;
 
+#[tactic(auto, unfolding(crate::specs::Sums::sum_to))]
 fn shares_of(amount: u64, a: u64, b: u64, c: u64) -> [u64; 3]
     requires { a + b + c < 2 ^ 64 }
 {
-    let mut shares = [0; 3];
-    divide(amount, &[a, b, c], &mut shares);
-    shares
+    shares(amount, &[a, b, c])
 }
 
 #[test]

@@ -1,7 +1,7 @@
 use Rattle.std.proofs.Common.{◌≡◌, suc, ◌+◌, ◌*◌, ◌/◌, ◌<◌, ◌≢◌, length, sym, add-one, arith, get_or-set_other, get_or-set_same, below_more}
 use Rattle.foundation.specs.Sums.{sum_to, listed}
 use Rattle.foundation.proofs.Sums.{sum_to_none, sum_to_more, sum_to_mono}
-use Rattle.foundation.proofs.Shares.{reached_none, reached_le, share_is, divided}
+use Rattle.foundation.proofs.Shares.{reached_none, share_is, divided}
 use Rattle.foundation.proofs.division.divide.Goals as goal
 
 pub loop-k-init : goal.loop-k-init
@@ -28,10 +28,6 @@ next_is c =
     let w = listed c.args.weights.now in
     let so_far : c.loop-k.reached + w c.loop-k.k ≡ sum_to (suc c.loop-k.k) w = omega (arith, sum_to_more c.loop-k.k w) in
     cc so_far
-
-pub overflow_sub-shares : goal.overflow_sub-shares
-overflow_sub-shares c =
-    omega (arith, next_is c, reached_le c.args.amount (length c.args.weights.now) (listed c.args.weights.now) c.loop-k.k)
 
 pub loop-k-preserved : goal.loop-k-preserved
 loop-k-preserved c =

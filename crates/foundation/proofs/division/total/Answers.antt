@@ -1,17 +1,13 @@
-use Rattle.std.proofs.Common.{suc, length, sym, add-one, arith}
-use Rattle.foundation.specs.Sums.{listed}
-use Rattle.foundation.proofs.Sums.{sum_to_none, sum_to_more, sum_to_mono}
+use Rattle.std.proofs.Common.{◌≡◌, ◌∙◌, ◌<◌, ◌^◌, sum, rules, arith}
+use Rattle.foundation.proofs.Lists.{sum_places}
 use Rattle.foundation.proofs.division.total.Goals as goal
 
-pub loop-weight-init : goal.loop-weight-init
-loop-weight-init c = sym (sum_to_none (listed c.args.weights.now))
+pub sum-requires-clause-fits : goal.sum-requires-clause-fits
+sum-requires-clause-fits c =
+    let fits : sum c.args.weights.now < 2 ^ 64 = omega (arith, sum_places c.args.weights.now) in
+    search rules
 
--- no sum of the first weights is above that of all
-pub overflow_add-sum : goal.overflow_add-sum
-overflow_add-sum c =
-    let w = listed c.args.weights.now in
-    let i = c.loop-weight.weight-index in
-    omega (arith, sum_to_more i w, sum_to_mono (suc i) (length c.args.weights.now) w (omega arith))
-
-pub loop-weight-preserved : goal.loop-weight-preserved
-loop-weight-preserved c = rw add-one (omega (arith, sum_to_more c.loop-weight.weight-index (listed c.args.weights.now)))
+pub returns : goal.returns
+returns c =
+    let all : c.sum.result ≡ sum c.args.weights.now = search rules in
+    all ∙ sum_places c.args.weights.now
