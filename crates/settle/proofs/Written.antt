@@ -64,7 +64,7 @@ too_few ws ns few h = omega (arith, h.0, as_many 4294967295 (take 5 ws) ns h.1, 
 pub put_padded : (n i : ℕ) (ns : List ℕ) (m : ℕ) → i < n → drop i ns ≡ replicate (n - i) 0 → drop (i + 1) (set ns i m) ≡ replicate (n - (i + 1)) 0
 put_padded n i ns m l h =
     let left : n - i ≡ suc (n - (i + 1)) = omega arith in
-    let more : drop 1 (replicate (n - i) 0) ≡ replicate (n - (i + 1)) 0 = rw left refl in
+    let more : drop 1 (replicate {A = ℕ} (n - i) 0) ≡ replicate {A = ℕ} (n - (i + 1)) 0 = rw left refl in
     drop-set-lt (i + 1) ns i m (omega arith) ∙ sym (drop-drop 1 i ns) ∙ ap (drop 1) h ∙ more
 
 pub all_padded : (n i : ℕ) (ns : List ℕ) → length ns ≡ n → i ≤ n → drop i ns ≡ replicate (n - i) 0 → ns ≡ padded n (take i ns)

@@ -39,20 +39,12 @@ pub(crate) fn exactly<const N: usize>(words: &[&str], most: u64) -> Result<[u64;
     Ok(numbers)
 }
 
-// The one number that the words write.
-pub(crate) fn single(words: &[&str], most: u64) -> Result<u64, NoStep>
-    ensures answer { Parsed (λ n. Numbers most (texts words.now) (n ∷ [])) result }
-    ensures small { IfOk result (λ n. n ≤ most) }
-{
-    let [number] = exactly::<1>(words, most)?;
-    Ok(number)
-}
-
-// The same, of one byte: a number of a declaration, or a set of regions.
+// One byte: the number of a declaration, or a set of regions.
 pub(crate) fn byte(words: &[&str]) -> Result<u8, NoStep>
     ensures { Parsed (λ n. Numbers 255 (texts words.now) (n ∷ [])) result }
 {
-    Ok(single(words, 255)? as u8)
+    let [byte] = exactly::<1>(words, 255)?;
+    Ok(byte as u8)
 }
 
 pub(crate) fn owners(heap: Global, words: &[&str]) -> Result<Vec<u8>, NoStep>

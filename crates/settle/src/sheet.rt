@@ -108,9 +108,8 @@ pub(crate) fn parse(heap: Global, line: &str) -> Result<Option<Step>, NoStep>
 // All steps of a sheet, so that none is carried out before the last is known to be one.
 pub(crate) fn lines(heap: Global, text: &str) -> Result<Vec<Line>, Failure> {
     let mut lines = Vec::new(heap);
-    let mut number = 0usize;
-    for line in text.lines() {
-        number = number.saturating_add(1);
+    for (before, line) in text.lines().enumerate() {
+        let number = before.saturating_add(1);
         match parse(heap, line) {
             Ok(Some(step)) => lines.push(Line { number, step })?,
             Ok(None) => {}
@@ -134,8 +133,8 @@ fn chooses(step: &Step) -> bool
 pub(crate) fn choosing(lines: &[Line], from: usize) -> Option<usize>
     ensures { MatchOption result ((k : ℕ) → from ≤ k → ChoosesAt lines.now k → ⊥) (λ k. FirstFrom from lines.now k) }
 {
-    for k in from..lines.len() {
-        if chooses(&lines[k].step) {
+    for (k, line) in lines.iter().enumerate().skip(from) {
+        if chooses(&line.step) {
             return Some(k);
         }
     }

@@ -2,7 +2,7 @@
 ghost use Rattle.std.specs.Prelude.{◌≡◌, [], ◌∷◌, if◌then◌else◌, string_bytes, codes};
 ghost use Rattle.settle.specs.Sheet.{Parsed, texts, Asks};
 
-use crate::numbers::{byte, exactly, owners, single, totals, weights};
+use crate::numbers::{byte, exactly, number, owners, totals, weights};
 use crate::sheet::{NoStep, Step};
 use crate::terms::{heading, terms};
 use session::call::Call;
@@ -67,9 +67,9 @@ fn handover(words: &[&str]) -> Result<Step, NoStep>
 fn journal(heap: Global, words: &[&str]) -> Result<Step, NoStep>
     ensures { Parsed (λ step. Asks (codes "journal") (texts words.now) step) result }
 {
-    let (first, rest) = words.split_at_checked(1).ok_or(NoStep::Unknown)?;
+    let (first, rest) = words.split_first().ok_or(NoStep::Unknown)?;
     Ok(Step::Journal {
-        records: single(first, 65_535)? as u16,
+        records: number(*first, 65_535)? as u16,
         name: name(heap, rest)?,
     })
 }
@@ -77,9 +77,9 @@ fn journal(heap: Global, words: &[&str]) -> Result<Step, NoStep>
 fn split(words: &[&str]) -> Result<Step, NoStep>
     ensures { Parsed (λ step. Asks (codes "split") (texts words.now) step) result }
 {
-    let (first, rest) = words.split_at_checked(1).ok_or(NoStep::Unknown)?;
+    let (first, rest) = words.split_first().ok_or(NoStep::Unknown)?;
     Ok(Step::Split {
-        part: single(first, u64::MAX)?,
+        part: number(*first, u64::MAX)?,
         set: byte(rest)?,
     })
 }
