@@ -1,5 +1,5 @@
 // The run sheet: one step a line.
-ghost use Rattle.std.specs.Prelude.{◌≡◌, ℕ, ◌≤◌, IfOk, MatchOption};
+ghost use Rattle.std.specs.Prelude.{◌≡◌, ℕ, ◌≤◌, IfOk, MatchOption, position};
 ghost use Rattle.settle.specs.declared.sheet.NoStep.TheVariants.{NoMemory};
 ghost use Rattle.settle.specs.Choice.{ChoosesAt, FirstFrom, chooses_ledger};
 ghost use Rattle.settle.specs.Sheet.{said_of, words_of, Parsed, texts, AsksAll};
@@ -129,16 +129,19 @@ fn chooses(step: &Step) -> bool
     matches!(step, Step::Table | Step::Journal { .. })
 }
 
-// The first line, from a place on, that chooses a ledger.
+// The first line that chooses a ledger.
+fn first_choosing(lines: &[Line]) -> Option<usize>
+    ensures { result ≡ position (λ line. chooses_ledger line.step) lines.now }
+{
+    lines.iter().position(|line| chooses(&line.step))
+}
+
+// The first from a place on.
 pub(crate) fn choosing(lines: &[Line], from: usize) -> Option<usize>
     ensures { MatchOption result ((k : ℕ) → from ≤ k → ChoosesAt lines.now k → ⊥) (λ k. FirstFrom from lines.now k) }
 {
-    for (k, line) in lines.iter().enumerate().skip(from) {
-        if chooses(&line.step) {
-            return Some(k);
-        }
-    }
-    None
+    let after = first_choosing(lines.get(from..)?)?;
+    Some(from + after)
 }
 
 #[cfg(test)]

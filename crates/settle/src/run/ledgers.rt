@@ -187,9 +187,14 @@ impl Run {
 fn standing_under<L: Ledger>(ledger: &L, serial: u16) -> usize
     ensures { result ≡ standing_under_serial (L.Ledger.owed ledger.now) serial 64 }
 {
-    (0..PARTIES)
-        .filter(|party| ledger.amount(*party, serial) != 0)
-        .count()
+    // Not a count over a filtered range: what a run of such a filter yields says nothing of what the ledger owes.
+    let mut count = 0;
+    for party in 0..PARTIES {
+        if ledger.amount(party, serial) != 0 {
+            count += 1;
+        }
+    }
+    count
 }
 
 // How many amounts are not 0.

@@ -1,4 +1,6 @@
-use Rattle.std.proofs.Common.{◌≡◌, ◌*◌, ◌/◌, ◌^◌, ◌<◌, ◌≤◌, true, false, ltb, ap, arith, lt-ltb}
+use Rattle.std.proofs.Common.{◌≡◌, ◌*◌, ◌/◌, ◌^◌, ◌≤◌, true, false, ap, arith}
+use Rattle.std.specs.Prelude.{nat_lt}
+use Rattle.std.proofs.lemmas.Bool.Decides.{nat_tests}
 use Rattle.settle.specs.declared.exact.OffBy.{OffBy}
 use Rattle.settle.specs.declared.exact.OffBy.TheVariants.{Above, Below}
 use Rattle.settle.proofs.Fractions.{product_most}
@@ -11,7 +13,13 @@ overflow_mul-by c =
     omega (arith, paid, exact.limit, c.abs_diff.ensures)
 
 pub returns-then-paid-self : goal.returns-then-paid-self
-returns-then-paid-self c = ?
+returns-then-paid-self c =
+    let exact = c.args.self.now in
+    let above : nat_lt exact.top (c.args.share * exact.bottom) ≡ true = grind (arith, nat_tests) in
+    rw above (ap {B = OffBy} (λ n. Above (record { thousandths = n * 1000 / exact.bottom })) c.abs_diff.ensures)
 
 pub returns-else-paid-self : goal.returns-else-paid-self
-returns-else-paid-self c = ?
+returns-else-paid-self c =
+    let exact = c.args.self.now in
+    let below : nat_lt exact.top (c.args.share * exact.bottom) ≡ false = grind (arith, nat_tests) in
+    rw below (ap {B = OffBy} (λ n. Below (record { thousandths = n * 1000 / exact.bottom })) c.abs_diff.ensures)
