@@ -1,7 +1,8 @@
 -- Laws of the bytes of records.
-use Rattle.std.proofs.Common.{◌≡◌, ℕ, zero, suc, ◌+◌, ◌*◌, ◌/◌, ◌%◌, ◌^◌, ◌<◌, ◌≤◌, List, ◌++◌, length, get_or, set, replicate, ℤ, pos, sym, refl, ap, ◌∙◌, arith, w16, SFits, to_z, of_z}
+use Rattle.std.proofs.Common.{◌≡◌, ℕ, zero, suc, ◌+◌, ◌*◌, ◌/◌, ◌%◌, ◌^◌, ◌<◌, ◌≤◌, List, ◌++◌, length, get_or, set, replicate, ℤ, pos, [], ◌∷◌, sym, refl, ap, ◌∙◌, add-one, arith, w16, SFits, to_z, of_z}
 use Rattle.std.proofs.lemmas.List.{get_or-append-add, get_or_append_left, get_or_past, get_or-set_same, get_or-set_other, length-set}
 use Rattle.std.proofs.lemmas.Int.{to_z-of_z}
+use borrow.Rule.Slice.PartMut.{put_mid}
 use Rattle.foundation.specs.Bytes.{number_at}
 use Rattle.sampling.specs.Records.{Fields}
 use Rattle.figures.specs.Samples.{Shows}
@@ -17,6 +18,16 @@ number_put b at n h f =
 -- the other bytes stay
 pub rest_put : (b : List ℕ) (at x y k : ℕ) → (k ≡ at → ⊥) → (k ≡ at + 1 → ⊥) → get_or (set (set b at x) (at + 1) y) k 0 ≡ get_or b k 0
 rest_put b at x y k p q = get_or-set_other (set b at x) (at + 1) k y 0 q ∙ get_or-set_other b at k x 0 p
+
+-- two bytes written over a part
+pub part_put : (b : List ℕ) (at k x y : ℕ) (ys : List ℕ) → at + 1 < length b → k ≡ 2 → ys ≡ x ∷ y ∷ [] → put_mid at k b ys ≡ set (set b at x) (at + 1) y
+part_put b at k x y ys l e h = rw (e, h) (put b at l ∙ ap (λ n. set (set b at x) n y) (sym (add-one at)))
+  where
+    put : (b : List ℕ) (at : ℕ) → at + 1 < length b → put_mid at 2 b (x ∷ y ∷ []) ≡ set (set b at x) (suc at) y
+    put [] at l = absurd (omega arith)
+    put (a ∷ []) at l = absurd (omega arith)
+    put (a ∷ c ∷ bs) zero l = refl
+    put (a ∷ c ∷ bs) (suc at) l = ap {B = List ℕ} (λ (r : List ℕ). a ∷ r) (put (c ∷ bs) at (omega arith))
 
 -- a number is told by its two bytes
 pub number_same : (b d : List ℕ) (i j : ℕ) → get_or b i 0 ≡ get_or d j 0 → get_or b (i + 1) 0 ≡ get_or d (j + 1) 0 → number_at b i ≡ number_at d j

@@ -11,7 +11,7 @@ ghost use Rattle.figures.specs.Figures.{WorkedFigures};
 ghost use Rattle.figures.specs.Samples.{UsedOne};
 
 use failure::Failure;
-use foundation::division::divide;
+use foundation::division::shares;
 use samples::{Reading, interval_of};
 use sampling::category::{Category, Sums};
 use sampling::state::Sampling;
@@ -31,7 +31,7 @@ const RAISE: u8 = 1;
 
 const LOWER: u8 = 2;
 
-const BOTH: u8 = 3;
+const BOTH: u8 = RAISE | LOWER;
 
 // There is nothing to compute: the figures are in the contract, and hold by its proof.
 pub fn worked_figures()
@@ -46,9 +46,7 @@ pub fn worked_recoveries()
 fn shares_of_ten() -> [u64; 3]
     ensures { result ≡ 3 ∷ 3 ∷ 4 ∷ [] }
 {
-    let mut shares = [0; 3];
-    divide(10, &[1, 1, 1], &mut shares);
-    shares
+    shares(10, &[1, 1, 1])
 }
 
 fn print_division(rt: &HostRuntime) -> io::Result<()> {
@@ -73,15 +71,23 @@ fn sampled(
     Ok(sampling)
 }
 
+// What a rule says of each category.
+fn sums_by<F: Fn(Category) -> i64>(rule: F) -> Sums
+    requires { (c : Category) → F.pre rule c }
+    ensures { (c : Category) → F.post rule c (sum_in result c) }
+{
+    Sums {
+        raise_not_enabled: rule(Category::RaiseNotEnabled),
+        raise_enabled: rule(Category::RaiseEnabled),
+        lower_not_enabled: rule(Category::LowerNotEnabled),
+        lower_enabled: rule(Category::LowerEnabled),
+    }
+}
+
 fn sums_of(sampling: &Sampling, unit: usize) -> Sums
     ensures { (c : Category) → sum_in result c ≡ sum_at sampling.now.units.items unit c }
 {
-    Sums {
-        raise_not_enabled: sampling.sum(unit, Category::RaiseNotEnabled),
-        raise_enabled: sampling.sum(unit, Category::RaiseEnabled),
-        lower_not_enabled: sampling.sum(unit, Category::LowerNotEnabled),
-        lower_enabled: sampling.sum(unit, Category::LowerEnabled),
-    }
+    sums_by(|category| sampling.sum(unit, category))
 }
 
 fn print_sums(rt: &HostRuntime, of: &str, sums: Sums) -> io::Result<()> {
@@ -145,12 +151,7 @@ fn subtotal(sampling: &Sampling, category: Category) -> i64
 
 fn print_factors(rt: &HostRuntime) -> Result<(), Failure> {
     let sampling = causers(rt.alloc())?;
-    let party_0 = Sums {
-        raise_not_enabled: subtotal(&sampling, Category::RaiseNotEnabled),
-        raise_enabled: subtotal(&sampling, Category::RaiseEnabled),
-        lower_not_enabled: subtotal(&sampling, Category::LowerNotEnabled),
-        lower_enabled: subtotal(&sampling, Category::LowerEnabled),
-    };
+    let party_0 = sums_by(|category| subtotal(&sampling, category));
     print_sums(rt, "party 0", party_0)?;
     print_sums(rt, "party 1", sums_of(&sampling, 2))?;
     print_sums(rt, "residual", sums_of(&sampling, 3))?;

@@ -33,12 +33,10 @@ fn put(bytes: &mut [u8], at: usize, number: u16)
     ensures number { number_at bytes.new at ≡ number }
     ensures rest { (k : ℕ) → (k ≢ at) → (k ≢ at + 1) → slice_index bytes.new k ≡ slice_index bytes.old k }
 {
-    let [high, low] = number.to_be_bytes();
-    bytes[at] = high;
-    bytes[at + 1] = low;
+    bytes[at..at + 2].copy_from_slice(&number.to_be_bytes());
 }
 
-fn record_of(interval: u16, unit: u16, enablement: u8, values: [i16; 2]) -> [u8; 156]
+fn record_of(interval: u16, unit: u16, enablement: u8, values: [i16; 2]) -> [u8; RECORD_BYTES]
     ensures { Shows result 0 (fields_from interval unit enablement values) }
 {
     let mut bytes = [0; RECORD_BYTES];

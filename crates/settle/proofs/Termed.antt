@@ -1,15 +1,14 @@
 -- Terms that words write.
 use Rattle.std.proofs.Common.{◌≡◌, ℕ, zero, suc, ◌+◌, ◌-◌, ◌*◌, ◌<◌, ◌≤◌, min, List, [], ◌∷◌, ◌++◌, length, get_or, take, drop, set, replicate, Some, None, Err, sym, refl, ap, ◌∙◌, add-one, arith, length-drop, Bor}
 use Rattle.std.proofs.lemmas.List.{append-nil, append_assoc, drop_all, drop-drop, drop-map, take_all, take-map}
+use Rattle.std.specs.Simd.{first_chunks}
+use Rattle.foundation.proofs.Chunks.{chunk_is}
 use Rattle.book.specs.declared.term.Term.{Term}
 use Rattle.settle.specs.declared.sheet.NoStep.{NoStep}
 use Rattle.settle.specs.declared.sheet.NoStep.TheVariants.{Unknown, NoMemory}
 use Rattle.settle.specs.Sheet.{texts, Parsed}
 use Rattle.settle.specs.Numbers.{Reads}
 use Rattle.settle.specs.Terms.{Heading, Termed, first_terms, no_term}
-
-pub unread : (most : ℕ) (word : List ℕ) (n : ℕ) → Reads most word None → Reads most word (Some n) → ⊥
-unread most word n none some = none some.0 (omega (arith, some.1, some.2))
 
 pub heading_long : (ws : List (List ℕ)) (n i v p : ℕ) → Heading ws n i v p → length ws ≡ 4
 heading_long [] n i v p h = elim h [ ]
@@ -92,10 +91,14 @@ module _ (words : List (List ℕ)) (i : ℕ) (ts : List Term) (b : Begun words i
       let nothing : Termed (drop i words) [] = rw (drop_all i words l) tt in
       rw (append-nil ts) at (b.grown [] nothing)
 
-pub three_texts : (words three : List (Bor (List ℕ))) (i n : ℕ) → n ≡ 3 → three ≡ take n (drop i words) → texts three ≡ take 3 (drop i (texts words))
-three_texts words three i n e f =
+-- the words of a term are three of all words
+pub three_texts : (words : List (Bor (List ℕ))) (chunks : List (List (Bor (List ℕ)))) (k i : ℕ) → chunks ≡ first_chunks 3 k words → i < k → texts (get_or chunks i []) ≡ take 3 (drop (3 * i) (texts words))
+three_texts words chunks k i e l =
     let now_of : Bor (List ℕ) → List ℕ = λ w. w.now in
-    ap texts (f ∙ ap (λ m. take m (drop i words)) e) ∙ sym (take-map now_of 3 (drop i words)) ∙ ap (take 3) (sym (drop-map now_of i words))
+    ap (λ (cs : List (List (Bor (List ℕ)))). texts (get_or cs i [])) e
+    ∙ ap texts (chunk_is 3 k words i l)
+    ∙ sym (take-map now_of 3 (drop (3 * i) words))
+    ∙ ap (take 3) (sym (drop-map now_of (3 * i) words))
 
 module _ (words three : List (Bor (List ℕ))) (i : ℕ) (same : texts three ≡ take 3 (drop i (texts words))) (inside : i < length (texts words)) (ts : List Term) (b : Begun (texts words) i ts) where
   pub refused_term : (why : NoStep) → Parsed {T = Term} (λ t. Termed (texts three) (t ∷ [])) (Err why) → Parsed {T = List Term} (λ us. Termed (texts words) us) (Err why)

@@ -1,5 +1,5 @@
 -- Words of a run sheet.
-use Rattle.std.proofs.Common.{◌≡◌, ℕ, ◌-◌, ◌<◌, List, [], ◌∷◌, ◌++◌, length, get_or, take, drop, Some, None, Err, codes, Option, Result, sym, refl, ap, ◌∙◌, arith, Bor, rules}
+use Rattle.std.proofs.Common.{◌≡◌, ℕ, ◌-◌, ◌<◌, List, [], ◌∷◌, ◌++◌, length, get_or, take, drop, Some, None, Err, codes, Option, sym, subst, refl, ap, ◌∙◌, arith, Bor, rules}
 use Rattle.std.proofs.lemmas.List.{take_all, take-map, map-append, length-map}
 use Rattle.settle.specs.declared.sheet.NoStep.{NoStep}
 use Rattle.settle.specs.declared.sheet.NoStep.TheVariants.{Unknown, NoMemory}
@@ -7,7 +7,7 @@ use Rattle.session.specs.declared.call.Call.TheVariants as call
 use Rattle.settle.specs.declared.sheet.Step.{Step}
 use Rattle.settle.specs.declared.sheet.Step.TheVariants as step
 use Rattle.settle.specs.Numbers.{Numbers}
-use Rattle.settle.specs.Sheet.{Parsed, texts, Asks, AsksAll}
+use Rattle.settle.specs.Sheet.{Parsed, ParsedAs, texts, Asks, AsksAll}
 use Rattle.settle.specs.Terms.{Heading}
 
 pub texts_push : (old new : List (Bor (List ℕ))) (word : Bor (List ℕ)) → new ≡ old ++ (word ∷ []) → texts new ≡ texts old ++ (word.now ∷ [])
@@ -49,42 +49,16 @@ module _ (all : List (List ℕ)) (keyword : List ℕ) (words : List (List ℕ)) 
       none (Some step) asks = h step (rw parts at asks)
   refused_all NoMemory h = tt
 
-pub asked_by : (keyword named : List ℕ) (words : List (List ℕ)) (r : Result Step NoStep) → keyword ≡ named → Parsed (λ step. Asks named words step) r → Parsed (λ step. Asks keyword words step) r
-asked_by keyword named words r e h = rw e h
+-- where a part that something would need is refused, it is refused itself
+pub refused : {S T U : Type 0} (P : S → Type 0) (held : T → U) (Q : U → Type 0) → ((u : U) → Q u → (s : S) × P s) → (why : NoStep) → Parsed P (Err why) → ParsedAs held Q (Err why)
+refused P held Q needed Unknown none = λ u q. let n = needed u q in none n.0 n.1
+refused P held Q needed NoMemory none = tt
 
--- where what a step would need is refused, no step is asked for
-pub unasked : {U : Type 0} (P : U → Type 0) (named : List ℕ) (words : List (List ℕ)) (why : NoStep) → ((step : Step) → Asks named words step → (u : U) × P u) → Parsed {T = U} P (Err why) → Parsed {T = Step} (λ step. Asks named words step) (Err why)
-unasked P named words Unknown needed none = λ step asks. let n = needed step asks in none n.0 n.1
-unasked P named words NoMemory needed none = tt
-
--- no number is written first where there is no word, or where the first word is refused as one
-pub none_first : (most : ℕ) (words : List (Bor (List ℕ))) → length words ≡ 0 → (n : ℕ) → Numbers most (take 1 (texts words)) (n ∷ []) → ⊥
-none_first most [] e n h = h
-none_first most (w ∷ ws) e n h = omega arith
-
-pub refused_first : (most : ℕ) (words first : List (Bor (List ℕ))) → first ≡ take 1 words → ((n : ℕ) → Numbers most (texts first) (n ∷ []) → ⊥) → (n : ℕ) → Numbers most (take 1 (texts words)) (n ∷ []) → ⊥
-refused_first most words first e none n h = none n (rw (e, ← (take-map (λ (w : Bor (List ℕ)). w.now) 1 words)) h)
-
-pub no_journal : (words : List (List ℕ)) → ((n : ℕ) → Numbers 65535 (take 1 words) (n ∷ []) → ⊥) → (step : Step) → Asks (codes "journal") words step → ⊥
-no_journal words none step asks = search rules
-
-pub no_split : (words : List (List ℕ)) → ((n : ℕ) → Numbers 18446744073709551615 (take 1 words) (n ∷ []) → ⊥) → (step : Step) → Asks (codes "split") words step → ⊥
-no_split words none step asks = search rules
-
-module _ (most : ℕ) (words first : List (Bor (List ℕ))) (e : first ≡ take 1 words) where
-  pub refused_number : (Wanted : Step → Type 0) → (((n : ℕ) → Numbers most (take 1 (texts words)) (n ∷ []) → ⊥) → (step : Step) → Wanted step → ⊥) → (why : NoStep) → Parsed {T = ℕ} (λ n. Numbers most (texts first) (n ∷ [])) (Err why) → Parsed {T = Step} Wanted (Err why)
-  refused_number Wanted none Unknown refused = none (refused_first most words first e refused)
-  refused_number Wanted none NoMemory refused = tt
+-- where words follow a keyword that nothing may follow
+pub refused_nothing : (named keyword : List ℕ) (words : List (List ℕ)) (why : NoStep) → keyword ≡ named → ((step : Step) → Asks named words step → words ≡ []) → Parsed {T = Unit {0}} (λ _. words ≡ []) (Err why) → Parsed {T = Step} (λ step. Asks keyword words step) (Err why)
+refused_nothing named keyword words why e needed none = refused {S = Unit {0}} (λ _. words ≡ []) (λ (step : Step). step) (λ step. Asks keyword words step) (λ step asks. (tt, needed step (subst (λ k. Asks k words step) e asks))) why none
 
 -- where the words after a keyword are refused, no step is asked for
-pub no_handover : (words : List (List ℕ)) (why : NoStep) → Parsed {T = ℕ × ℕ} (λ p. Numbers 65535 words (p.0 ∷ p.1 ∷ [])) (Err why) → Parsed {T = Step} (λ step. Asks (codes "handover") words step) (Err why)
-no_handover words Unknown none = λ step asks. let apart : (l s : ℕ) → Numbers 65535 words (l ∷ s ∷ []) → ⊥ = λ l s h. none (l, s) h in search rules
-no_handover words NoMemory none = tt
-
-pub no_declare : (words : List (List ℕ)) (why : NoStep) → Parsed {T = ℕ × ℕ × ℕ} (λ p. Numbers 255 words (p.0 ∷ p.1 ∷ p.2 ∷ [])) (Err why) → Parsed {T = Step} (λ step. Asks (codes "declare") words step) (Err why)
-no_declare words Unknown none = λ step asks. let apart : (n k s : ℕ) → Numbers 255 words (n ∷ k ∷ s ∷ []) → ⊥ = λ n k s h. none (n, k, s) h in search rules
-no_declare words NoMemory none = tt
-
 pub no_claim : (words : List (List ℕ)) → ((n i v p : ℕ) → Heading (take 4 words) n i v p → ⊥) → (step : Step) → Asks (codes "claim") words step → ⊥
 no_claim words none (step.Units x) asks = search rules
 no_claim words none (step.UnitsFile x) asks = search rules

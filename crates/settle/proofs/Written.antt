@@ -1,7 +1,8 @@
 -- Numbers that words write.
-use Rattle.std.proofs.Common.{◌≡◌, ℕ, zero, suc, ◌+◌, ◌-◌, ◌^◌, ◌<◌, ◌≤◌, false, eqb, List, [], ◌∷◌, ◌++◌, length, get_or, take, set, replicate, Some, None, sym, refl, ap, ◌∙◌, add-one, arith, length-take, Bor}
+use Rattle.std.proofs.Common.{◌≡◌, ℕ, zero, suc, ◌+◌, ◌-◌, ◌^◌, ◌<◌, ◌≤◌, false, eqb, List, [], ◌∷◌, ◌++◌, length, get_or, take, drop, set, replicate, Some, sym, refl, ap, ◌∙◌, arith, length-take, take-append-drop, Bor}
 use Rattle.std.specs.Str.Parse.{IsNumeral, digits_value, without_leading_plus}
-use Rattle.std.proofs.lemmas.List.{take_more, take_all, map-append}
+use Rattle.std.proofs.lemmas.List.{take_more, map-append, drop-drop, drop-set-lt}
+use Rattle.std.proofs.lemmas.Grind.{take-set_at}
 use Rattle.settle.specs.Numbers.{Reads, Numbers, Within, FiveTotals, padded}
 use Rattle.settle.specs.Sheet.{texts}
 
@@ -13,22 +14,11 @@ module _ (most : ℕ) (word : List ℕ) (plain : eqb (get_or word 0 0) 43 ≡ fa
   pub read_some : (n : ℕ) → Fitting × (n ≡ digits_value 10 (without_leading_plus word)) → n ≤ most → Reads most word (Some n)
   read_some n read h = let p = rw plain at read in (p.0.0, p.1, h)
 
-  pub read_over : (n : ℕ) → Fitting × (n ≡ digits_value 10 (without_leading_plus word)) → most < n → Reads most word None
-  read_over n read h = let p = rw plain at read in λ number small. omega (arith, p.1)
+  pub read_over : (n : ℕ) → Fitting × (n ≡ digits_value 10 (without_leading_plus word)) → most < n → (m : ℕ) → Reads most word (Some m) → ⊥
+  read_over n read h m reads = let p = rw plain at read in omega (arith, p.1, reads.1, reads.2)
 
-  pub read_none : (Fitting → ⊥) → most < 2 ^ 64 → Reads most word None
-  read_none read h = let p = rw plain at read in λ number small. p (number, omega arith)
-
--- the list of what f says of the first n numbers
-abbrev pub places : ℕ → (ℕ → ℕ) → List ℕ
-places zero f = []
-places (suc n) f = f 0 ∷ places n (λ k. f (suc k))
-
-placed : (n : ℕ) (ns : List ℕ) → length ns ≡ n → ns ≡ places n (λ k. get_or ns k 0)
-placed zero [] e = refl
-placed zero (m ∷ ns) e = absurd (omega arith)
-placed (suc n) [] e = absurd (omega arith)
-placed (suc n) (m ∷ ns) e = ap {B = List ℕ} (λ (r : List ℕ). m ∷ r) (placed n ns (omega arith))
+  pub read_none : (Fitting → ⊥) → most < 2 ^ 64 → (m : ℕ) → Reads most word (Some m) → ⊥
+  read_none read h m reads = let p = rw plain at read in p (reads.0, omega (arith, reads.1, reads.2))
 
 module _ (most : ℕ) where
   -- one word more, and its number
@@ -42,12 +32,16 @@ module _ (most : ℕ) where
   numbers_more words i d ns n l h r =
       rw (take_more words i d l, map-append (λ (w : Bor (List ℕ)). w.now) (take i words) (get_or words i d ∷ [])) (numbers_push (texts (take i words)) ns (get_or words i d).now n h r)
 
-  -- where one word writes no such number, the words write no numbers
-  pub no_numbers : (words : List (Bor (List ℕ))) (i : ℕ) (d : Bor (List ℕ)) (ns : List ℕ) → i < length words → Reads most (get_or words i d).now None → Numbers most (texts words) ns → ⊥
-  no_numbers [] i d ns l h b = omega arith
-  no_numbers (w ∷ ws) i d [] l h b = b
-  no_numbers (w ∷ ws) zero d (n ∷ ns) l h b = h b.0.0 (omega (arith, b.0.1, b.0.2))
-  no_numbers (w ∷ ws) (suc i) d (n ∷ ns) l h b = no_numbers ws i d ns (omega arith) h b.1
+  -- one word more, and its number in the place of another
+  pub put_number : (words : List (Bor (List ℕ))) (ns : List ℕ) (i : ℕ) (d : Bor (List ℕ)) (n : ℕ) → i < length words → i < length ns → Numbers most (texts (take i words)) (take i ns) → Reads most (get_or words i d).now (Some n) → Numbers most (texts (take (i + 1) words)) (take (i + 1) (set ns i n))
+  put_number words ns i d n l m h r = rw (take-set_at ns i (i + 1) n refl m) (numbers_more words i d (take i ns) n l h r)
+
+  -- the number that one of the words writes
+  pub number_at : (words : List (Bor (List ℕ))) (i : ℕ) (d : Bor (List ℕ)) (ns : List ℕ) → i < length words → Numbers most (texts words) ns → (n : ℕ) × Reads most (get_or words i d).now (Some n)
+  number_at [] i d ns l h = absurd (omega arith)
+  number_at (w ∷ ws) i d [] l h = elim h [ ]
+  number_at (w ∷ ws) zero d (n ∷ ns) l h = (n, h.0)
+  number_at (w ∷ ws) (suc i) d (n ∷ ns) l h = number_at ws i d ns (omega arith) h.1
 
   pub as_many : (ws : List (List ℕ)) (ns : List ℕ) → Numbers most ws ns → length ns ≡ length ws
   as_many [] [] h = refl
@@ -62,26 +56,18 @@ module _ (most : ℕ) where
   within (w ∷ ws) (n ∷ ns) h zero l = h.0.2
   within (w ∷ ws) (n ∷ ns) h (suc k) l = within ws ns h.1 k (omega arith)
 
-  pub as_long : (ws : List (List ℕ)) (ms ns : List ℕ) → Numbers most ws ms → Numbers most ws ns → length ms ≡ length ns
-  as_long ws ms ns g h = as_many ws ms g ∙ sym (as_many ws ns h)
-
-  pub placed_numbers : (ws : List (List ℕ)) (n : ℕ) (ns : List ℕ) → length ns ≡ n → Numbers most ws ns → Numbers most ws (places n (λ k. get_or ns k 0))
-  placed_numbers ws n ns e h = rw (placed n ns e) at h
-
 -- fewer words than totals
 pub too_few : (ws : List (List ℕ)) (ns : List ℕ) → length ws < 5 → FiveTotals (take 5 ws) ns → ⊥
 too_few ws ns few h = omega (arith, h.0, as_many 4294967295 (take 5 ws) ns h.1, length-take 5 ws)
 
--- the number at i after those before it, with 0 in the places that follow
-pad_more : (ns : List ℕ) (i m : ℕ) → i < length ns → set (take i ns ++ replicate (suc m) 0) i (get_or ns i 0) ≡ take (suc i) ns ++ replicate m 0
-pad_more [] i m l = absurd (omega arith)
-pad_more (n ∷ ns) zero m l = refl
-pad_more (n ∷ ns) (suc i) m l = ap {B = List ℕ} (λ (r : List ℕ). n ∷ r) (pad_more ns i m (omega arith))
+-- a number put in the first place that is still 0
+pub put_padded : (n i : ℕ) (ns : List ℕ) (m : ℕ) → i < n → drop i ns ≡ replicate (n - i) 0 → drop (i + 1) (set ns i m) ≡ replicate (n - (i + 1)) 0
+put_padded n i ns m l h =
+    let left : n - i ≡ suc (n - (i + 1)) = omega arith in
+    let more : drop 1 (replicate {A = ℕ} (n - i) 0) ≡ replicate {A = ℕ} (n - (i + 1)) 0 = rw left refl in
+    drop-set-lt (i + 1) ns i m (omega arith) ∙ sym (drop-drop 1 i ns) ∙ ap (drop 1) h ∙ more
 
-pub pad_next : (n : ℕ) (ns : List ℕ) (i : ℕ) → length ns ≤ n → i < length ns → set (take i ns ++ replicate (n - i) 0) i (get_or ns i 0) ≡ take (i + 1) ns ++ replicate (n - (i + 1)) 0
-pad_next n ns i few l =
-    let left : n - i ≡ suc (n - suc i) = omega arith in
-    rw (left, add-one) (pad_more ns i (n - suc i) l)
-
-pub pad_all : (n : ℕ) (ns : List ℕ) (i : ℕ) → i ≡ length ns → take i ns ++ replicate (n - i) 0 ≡ padded n ns
-pad_all n ns i e = rw (e, take_all (length ns) ns (omega arith))
+pub all_padded : (n i : ℕ) (ns : List ℕ) → length ns ≡ n → i ≤ n → drop i ns ≡ replicate (n - i) 0 → ns ≡ padded n (take i ns)
+all_padded n i ns e l h =
+    let long : length (take i ns) ≡ i = omega (arith, length-take i ns) in
+    sym (take-append-drop i ns) ∙ ap (λ (r : List ℕ). take i ns ++ r) (h ∙ ap (λ m. replicate (n - m) 0) (sym long))

@@ -1,5 +1,8 @@
 -- Shares as exact fractions, and what they are worked out from.
-use Rattle.std.specs.Prelude.{◌≡◌, ℕ, ◌+◌, ◌-◌, ◌*◌, ◌/◌, ◌≤◌}
+use Rattle.std.specs.Prelude.{◌≡◌, ℕ, ◌+◌, ◌-◌, ◌*◌, ◌/◌, ◌≤◌, cond, nat_lt}
+use Rattle.settle.specs.declared.exact.Decimals.{Decimals}
+use Rattle.settle.specs.declared.exact.OffBy.{OffBy}
+use Rattle.settle.specs.declared.exact.OffBy.TheVariants.{Above, Below}
 use Rattle.sampling.specs.declared.factors.Factors.{Factors}
 use Rattle.energy.specs.Energy.{grand}
 use Rattle.recovery.specs.declared.split.Split.{Split}
@@ -13,6 +16,12 @@ thousandths_of top bottom = top * 1000 / bottom
 -- how far a whole number is off a fraction, all multiplied by the divisor
 abbrev pub apart : (whole top bottom : ℕ) → ℕ
 apart whole top bottom = (whole * bottom - top) + (top - whole * bottom)
+
+-- how far a share is off its exact share, in thousandths: the difference is rounded
+abbrev pub off_by : (share top bottom : ℕ) → OffBy
+off_by share top bottom =
+    let by : Decimals = record { thousandths = thousandths_of (apart share top bottom) bottom } in
+    cond (nat_lt top (share * bottom)) (Above by) (Below by)
 
 -- the split is that of a part, by factors, over some set of regions and some source's energies
 pub record SplitOf (part : ℕ) (f : Factors) (s : Split) : Type 0 where

@@ -20,6 +20,10 @@ Within most ns = (k : ℕ) → k < length ns → slice_index ns k ≤ most
 abbrev pub padded : ℕ → List ℕ → List ℕ
 padded n ns = ns ++ replicate (n - length ns) 0
 
+-- n words write the numbers
+abbrev pub Exactly : (n most : ℕ) → List (List ℕ) → List ℕ → Type 0
+Exactly n most words ns = (length ns ≡ n) × Numbers most words ns
+
 -- the words write the totals of the five regions
 abbrev pub FiveTotals : List (List ℕ) → List ℕ → Type 0
 FiveTotals words totals = (length totals ≡ 5) × Numbers 4294967295 words totals

@@ -1,18 +1,19 @@
 // What a run prints of its declarations at its end.
-use crate::accounts::{Account, Accounts};
+use crate::accounts::Account;
 use crate::failure::Failure;
 use crate::money::Dollars;
 use book::book::Book;
 use book::claim::OpenClaim;
 use energy::island::in_set;
+use energy::source::REGIONS;
 use ledger::posting::{Ledger, PARTIES};
 use std::alloc::Global;
+use std::collections::BTreeMap;
 use std::io;
 use std::io::Write;
+use std::num::Saturating;
 
 const NUMBERS: u8 = 16;
-
-const REGIONS: u8 = 5;
 
 const REGULATION: u8 = 1;
 
@@ -25,22 +26,14 @@ fn verdict(agree: bool) -> &'static str {
 }
 
 // The ticks of the open claims under a serial.
-fn open_under(book: &Book, serial: u16) -> u64 {
-    let mut sum = 0u64;
-    for before in 0..NUMBERS {
-        if let Some(claim) = book.open_claim(before + 1) {
-            sum = sum.saturating_add(part_under(claim, serial));
+fn open_under(open: &[OpenClaim], serial: u16) -> Saturating<u64> {
+    let mut sum = Saturating(0);
+    for claim in open {
+        if claim.serial == serial {
+            sum += claim.part;
         }
     }
     sum
-}
-
-fn part_under(claim: OpenClaim, serial: u16) -> u64 {
-    if claim.serial == serial {
-        claim.part
-    } else {
-        0
-    }
 }
 
 fn heading(out: &mut impl Write, serial: u16, account: Account) -> io::Result<()> {
@@ -59,11 +52,12 @@ fn heading(out: &mut impl Write, serial: u16, account: Account) -> io::Result<()
     writeln!(out)
 }
 
-fn sides(out: &mut impl Write, account: Account, open: u64) -> io::Result<()> {
-    let claimed = account.claimed;
-    let recovered = account.recovered;
-    let handed_back = account.handed_back;
+fn sides(out: &mut impl Write, account: Account, open: Saturating<u64>) -> io::Result<()> {
+    let claimed = account.claimed.0;
+    let recovered = account.recovered.0;
+    let handed_back = account.handed_back.0;
     let verdict = verdict(account.is_whole(open));
+    let open = open.0;
     writeln!(
         out,
         "  claimed {claimed} ticks, recovered {recovered}, handed back {handed_back}, open {open}: {verdict}"
@@ -96,26 +90,17 @@ fn declaration<L: Ledger>(
     out: &mut impl Write,
     heap: Global,
     book: &Book,
+    open: &[OpenClaim],
     serial: u16,
     account: Account,
     ledger: &L,
 ) -> Result<(), Failure> {
     heading(out, serial, account)?;
-    sides(out, account, open_under(book, serial))?;
+    sides(out, account, open_under(open, serial))?;
     for party in 0..PARTIES {
         amount(out, heap, party, ledger.amount(party, serial))?;
     }
     sum(out, heap, account, book.total(ledger, serial))
-}
-
-fn count_open(book: &Book) -> u8 {
-    let mut count = 0u8;
-    for before in 0..NUMBERS {
-        if book.open_claim(before + 1).is_some() {
-            count = count.saturating_add(1);
-        }
-    }
-    count
 }
 
 fn open_claim(out: &mut impl Write, claim: OpenClaim) -> io::Result<()> {
@@ -129,16 +114,14 @@ fn open_claim(out: &mut impl Write, claim: OpenClaim) -> io::Result<()> {
     )
 }
 
-fn open_claims(out: &mut impl Write, book: &Book) -> io::Result<()> {
-    let count = count_open(book);
-    if count == 0 {
+fn open_claims(out: &mut impl Write, open: &[OpenClaim]) -> io::Result<()> {
+    if open.is_empty() {
         return writeln!(out, "Claims still open: none");
     }
+    let count = open.len();
     writeln!(out, "Claims still open: {count}")?;
-    for before in 0..NUMBERS {
-        if let Some(claim) = book.open_claim(before + 1) {
-            open_claim(out, claim)?;
-        }
+    for claim in open {
+        open_claim(out, *claim)?;
     }
     Ok(())
 }
@@ -147,21 +130,20 @@ pub(crate) fn print<L: Ledger>(
     out: &mut impl Write,
     heap: Global,
     book: &Book,
-    accounts: &Accounts,
+    accounts: &BTreeMap<u16, Account>,
     ledger: &L,
 ) -> Result<(), Failure> {
-    let made = book.declarations();
-    if made == 0 {
+    if accounts.is_empty() {
         return Ok(());
     }
+    let open: Vec<OpenClaim> = (1..=NUMBERS)
+        .filter_map(|number| book.open_claim(number))
+        .collect(heap)?;
     writeln!(out)?;
-    for before in 0..made {
-        let serial = before.saturating_add(1);
-        if let Some(account) = accounts.of(serial) {
-            declaration(out, heap, book, serial, account, ledger)?;
-        }
+    for (serial, account) in accounts.iter() {
+        declaration(out, heap, book, open.as_slice(), *serial, *account, ledger)?;
     }
     writeln!(out)?;
-    open_claims(out, book)?;
+    open_claims(out, open.as_slice())?;
     Ok(())
 }

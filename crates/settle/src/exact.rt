@@ -1,11 +1,11 @@
 // The exact shares of a split, as fractions, and how far the ticks paid are off them.
-ghost use Rattle.std.specs.Prelude.{◌≡◌, ℕ, ◌+◌, ◌*◌, ◌^◌, ◌<◌, ◌≤◌, IfOk, nat_lt};
+ghost use Rattle.std.specs.Prelude.{◌≡◌, ℕ, ◌+◌, ◌*◌, ◌^◌, ◌<◌, ◌≤◌, IfOk};
 ghost use Rattle.foundation.specs.Fault.{refusal};
 ghost use Rattle.foundation.specs.Sums.{listed, sum_to};
 ghost use Rattle.recovery.specs.Recovery.{split_fault};
 ghost use Rattle.recovery.specs.Shares.{basis_of};
 ghost use Rattle.recovery.specs.Split.{energy_of};
-ghost use Rattle.settle.specs.Exact.{ExactOf, SplitOf, apart, thousandths_of};
+ghost use Rattle.settle.specs.Exact.{ExactOf, SplitOf, off_by, thousandths_of};
 
 use energy::source::{EnergySource, PARTIES};
 use foundation::fault::Fault;
@@ -29,20 +29,17 @@ impl fmt::Display for Decimals {
 
 // How far a share is off, above or below.
 #[derive(Clone, Copy)]
-pub(crate) struct OffBy {
-    is_above: bool,
-    by: Decimals,
+pub(crate) enum OffBy {
+    Above(Decimals),
+    Below(Decimals),
 }
 
 impl fmt::Display for OffBy {
     fn fmt<W: fmt::Write>(&self, f: &mut fmt::Formatter<W>) -> fmt::Result {
-        let by = self.by;
-        if by.thousandths == 0 {
-            write!(f, "{by}")
-        } else if self.is_above {
-            write!(f, "+{by}")
-        } else {
-            write!(f, "-{by}")
+        match self {
+            OffBy::Above(by) if by.thousandths > 0 => write!(f, "+{by}"),
+            OffBy::Below(by) if by.thousandths > 0 => write!(f, "-{by}"),
+            OffBy::Above(by) | OffBy::Below(by) => write!(f, "{by}"),
         }
     }
 }
@@ -69,15 +66,16 @@ impl Exact {
 
     // The difference is rounded, not the exact share.
     pub(crate) fn off_by(&self, share: u64) -> OffBy
-        ensures above { result.is_above ≡ nat_lt self.now.top (share * self.now.bottom) }
-        ensures by { result.by.thousandths ≡ thousandths_of (apart share self.now.top self.now.bottom) self.now.bottom }
+        ensures { result ≡ off_by share self.now.top self.now.bottom }
     {
         let paid = share as u128 * self.bottom;
-        OffBy {
-            is_above: paid > self.top,
-            by: Decimals {
-                thousandths: paid.abs_diff(self.top) * 1000 / self.bottom,
-            },
+        let by = Decimals {
+            thousandths: paid.abs_diff(self.top) * 1000 / self.bottom,
+        };
+        if paid > self.top {
+            OffBy::Above(by)
+        } else {
+            OffBy::Below(by)
         }
     }
 

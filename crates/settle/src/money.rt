@@ -1,50 +1,41 @@
 // Money: a tick is 1/120 of a cent.
-ghost use Rattle.std.specs.Prelude.{◌≡◌, ◌/◌, false, pos, int_lt, unsigned_abs};
+ghost use Rattle.std.specs.Prelude.{◌≡◌, ◌/◌, pos, int_div};
 
 use std::fmt;
 
-const TICKS_OF_A_CENT: u64 = 120;
+const TICKS_OF_A_CENT: i64 = 120;
 
-// Whole cents, shown in dollars.
+// Whole cents, shown in dollars; a debt is below 0.
 #[derive(Clone, Copy)]
 pub(crate) struct Dollars {
-    is_debt: bool,
-    cents: u64,
+    cents: i64,
 }
 
 impl Dollars {
     // Rounds toward zero.
     pub(crate) fn of(ticks: i64) -> Dollars
-        ensures debt { result.is_debt ≡ int_lt ticks (pos 0) }
-        ensures cents { result.cents ≡ unsigned_abs ticks / 120 }
+        ensures { result.cents ≡ int_div ticks (pos 120) }
     {
         Dollars {
-            is_debt: ticks < 0,
-            cents: ticks.unsigned_abs() / TICKS_OF_A_CENT,
+            cents: ticks / TICKS_OF_A_CENT,
         }
     }
 
     pub(crate) fn of_share(ticks: u64) -> Dollars
-        ensures debt { result.is_debt ≡ false }
-        ensures cents { result.cents ≡ ticks / 120 }
+        ensures { result.cents ≡ pos (ticks / 120) }
     {
         Dollars {
-            is_debt: false,
-            cents: ticks / TICKS_OF_A_CENT,
+            cents: (ticks / TICKS_OF_A_CENT as u64) as i64,
         }
     }
 }
 
 impl fmt::Display for Dollars {
     fn fmt<W: fmt::Write>(&self, f: &mut fmt::Formatter<W>) -> fmt::Result {
-        // Less than a cent is nothing, and nothing has no sign.
-        let sign = if self.is_debt && self.cents > 0 {
-            "-"
-        } else {
-            ""
-        };
-        let dollars = self.cents / 100;
-        let cents = self.cents % 100;
+        let sign = if self.cents < 0 { "-" } else { "" };
+        let cents = self.cents.unsigned_abs();
+        let dollars = cents / 100;
+        let cents = cents % 100;
         write!(f, "{sign}{dollars}.{cents:02}")
     }
 }

@@ -1,135 +1,79 @@
 // Numbers that words of a run sheet write.
-ghost use Rattle.std.specs.Prelude.{◌≡◌, ◌≤◌, [], ◌∷◌, length, IfOk};
+ghost use Rattle.std.specs.Prelude.{◌≡◌, ◌≤◌, [], ◌∷◌, Some, IfOk, IfErr};
+ghost use Rattle.settle.specs.declared.sheet.NoStep.TheVariants.{Unknown};
 ghost use Rattle.settle.specs.Sheet.{texts, Parsed, ParsedAs};
-ghost use Rattle.settle.specs.Numbers.{Reads, Numbers, Within, FiveTotals, PartyWeights, padded};
+ghost use Rattle.settle.specs.Numbers.{Reads, Numbers, Exactly, Within, FiveTotals, PartyWeights};
 
 use crate::sheet::NoStep;
-use std::alloc::{AllocError, Global};
+use std::alloc::Global;
 
-const PARTIES: usize = 64;
+const PARTIES: usize = energy::source::PARTIES as usize;
 
 // A number of at most `most` in digits alone: `parse` would take a sign.
-pub(crate) fn number(word: &str, most: u64) -> Option<u64>
-    ensures { Reads most word.now result }
+pub(crate) fn number(word: &str, most: u64) -> Result<u64, NoStep>
+    ensures answer { Parsed (λ n. Reads most word.now (Some n)) result }
+    ensures why { IfErr result (λ why. why ≡ Unknown) }
+    ensures small { IfOk result (λ n. n ≤ most) }
 {
     if word.starts_with('+') {
-        return None;
+        return Err(NoStep::Unknown);
     }
     match word.parse::<u64>() {
-        Ok(number) if number <= most => Some(number),
-        _ => None,
-    }
-}
-
-fn numbers(heap: Global, words: &[&str], most: u32) -> Result<Vec<u32>, NoStep>
-    ensures { ParsedAs (λ v. v.items) (λ ns. Numbers most (texts words.now) ns) result }
-{
-    let mut numbers = Vec::new(heap);
-    for word in words {
-        match number(*word, most as u64) {
-            Some(number) => numbers.push(number as u32)?,
-            None => return Err(NoStep::Unknown),
-        }
-    }
-    Ok(numbers)
-}
-
-// The number that one word writes.
-pub(crate) fn single(words: &[&str], most: u64) -> Result<u64, NoStep>
-    ensures { Parsed (λ n. Numbers most (texts words.now) (n ∷ [])) result }
-{
-    match words {
-        [word] => match number(*word, most) {
-            Some(number) => Ok(number),
-            None => Err(NoStep::Unknown),
-        },
+        Ok(number) if number <= most => Ok(number),
         _ => Err(NoStep::Unknown),
     }
 }
 
-fn bytes(heap: Global, numbers: &[u32]) -> Result<Vec<u8>, AllocError>
-    requires { Within 255 numbers.now }
-    ensures { IfOk result (λ v. v.items ≡ numbers.now) }
+// The numbers of exactly `N` words.
+pub(crate) fn exactly<const N: usize>(words: &[&str], most: u64) -> Result<[u64; N], NoStep>
+    ensures answer { Parsed (λ ns. Exactly N most (texts words.now) ns) result }
+    ensures small { IfOk result (λ ns. Within most ns) }
 {
-    let mut bytes = Vec::new(heap);
-    for number in numbers {
-        bytes.push(*number as u8)?;
+    if words.len() != N {
+        return Err(NoStep::Unknown);
     }
-    Ok(bytes)
+    let mut numbers = [0; N];
+    for (k, word) in words.iter().enumerate() {
+        numbers[k] = number(*word, most)?;
+    }
+    Ok(numbers)
 }
 
-// The weights of all parties: 0 for those that have none listed.
-fn by_party(numbers: &[u32]) -> [u16; PARTIES]
-    requires { (Within 65535 numbers.now) × (length numbers.now ≤ 64) }
-    ensures { result ≡ padded 64 numbers.now }
+// One byte: the number of a declaration, or a set of regions.
+pub(crate) fn byte(words: &[&str]) -> Result<u8, NoStep>
+    ensures { Parsed (λ n. Numbers 255 (texts words.now) (n ∷ [])) result }
 {
-    let mut weights = [0u16; PARTIES];
-    for (party, number) in numbers.iter().enumerate() {
-        weights[party] = *number as u16;
-    }
-    weights
+    let [byte] = exactly::<1>(words, 255)?;
+    Ok(byte as u8)
 }
 
 pub(crate) fn owners(heap: Global, words: &[&str]) -> Result<Vec<u8>, NoStep>
     ensures { ParsedAs (λ v. v.items) (λ ns. Numbers 255 (texts words.now) ns) result }
 {
-    let numbers = numbers(heap, words, 255)?;
-    Ok(bytes(heap, numbers.as_slice())?)
-}
-
-pub(crate) fn byte(heap: Global, words: &[&str]) -> Result<u8, NoStep>
-    ensures { Parsed (λ n. Numbers 255 (texts words.now) (n ∷ [])) result }
-{
-    let numbers = numbers(heap, words, 255)?;
-    match numbers.as_slice() {
-        [byte] => Ok(*byte as u8),
-        _ => Err(NoStep::Unknown),
+    let mut owners = Vec::new(heap);
+    for word in words {
+        owners.push(number(*word, 255)? as u8)?;
     }
+    Ok(owners)
 }
 
-// A set of regions.
-pub(crate) fn set(heap: Global, words: &[&str]) -> Result<u8, NoStep>
-    ensures { Parsed (λ n. Numbers 255 (texts words.now) (n ∷ [])) result }
-{
-    byte(heap, words)
-}
-
-pub(crate) fn three_bytes(heap: Global, words: &[&str]) -> Result<(u8, u8, u8), NoStep>
-    ensures { Parsed (λ p. Numbers 255 (texts words.now) (p.0 ∷ p.1 ∷ p.2 ∷ [])) result }
-{
-    let numbers = numbers(heap, words, 255)?;
-    match numbers.as_slice() {
-        [first, second, third] => Ok((*first as u8, *second as u8, *third as u8)),
-        _ => Err(NoStep::Unknown),
-    }
-}
-
-pub(crate) fn parties(heap: Global, words: &[&str]) -> Result<(u16, u16), NoStep>
-    ensures { Parsed (λ p. Numbers 65535 (texts words.now) (p.0 ∷ p.1 ∷ [])) result }
-{
-    let numbers = numbers(heap, words, 65_535)?;
-    match numbers.as_slice() {
-        [first, second] => Ok((*first as u16, *second as u16)),
-        _ => Err(NoStep::Unknown),
-    }
-}
-
-pub(crate) fn totals(heap: Global, words: &[&str]) -> Result<[u32; 5], NoStep>
+pub(crate) fn totals(words: &[&str]) -> Result<[u32; 5], NoStep>
     ensures { Parsed (λ ns. FiveTotals (texts words.now) ns) result }
 {
-    let numbers = numbers(heap, words, u32::MAX)?;
-    match numbers.as_slice() {
-        [a, b, c, d, e] => Ok([*a, *b, *c, *d, *e]),
-        _ => Err(NoStep::Unknown),
-    }
+    let [a, b, c, d, e] = exactly::<5>(words, 4_294_967_295)?;
+    Ok([a as u32, b as u32, c as u32, d as u32, e as u32])
 }
 
-pub(crate) fn weights(heap: Global, words: &[&str]) -> Result<[u16; PARTIES], NoStep>
+// The weights of all parties: 0 for those that have none listed.
+pub(crate) fn weights(words: &[&str]) -> Result<[u16; PARTIES], NoStep>
     ensures { Parsed (λ ns. PartyWeights (texts words.now) ns) result }
 {
-    let numbers = numbers(heap, words, 65_535)?;
-    if numbers.len() > PARTIES {
+    if words.len() > PARTIES {
         return Err(NoStep::Unknown);
     }
-    Ok(by_party(numbers.as_slice()))
+    let mut weights = [0; PARTIES];
+    for (party, word) in words.iter().enumerate() {
+        weights[party] = number(*word, 65_535)? as u16;
+    }
+    Ok(weights)
 }

@@ -2,11 +2,10 @@
 ghost use Rattle.std.specs.Prelude.{◌≡◌, ◌+◌, ◌-◌, ◌/◌, ◌%◌, ◌^◌, min};
 
 use crate::tally::Tally;
+use energy::source::PARTIES;
 use sampling::factors::Factors;
 use std::io::Write;
 use std::{fmt, io};
-
-const PARTIES: u16 = 64;
 
 // The owner that stands for the residual.
 const RESIDUAL: u16 = 64;
@@ -91,9 +90,8 @@ fn table(out: &mut impl Write, factors: &Factors) -> io::Result<()> {
 }
 
 fn reasons(out: &mut impl Write, tally: &Tally) -> io::Result<()> {
-    for (number, occurred) in tally.occurred.iter() {
-        let refusal = occurred.refusal;
-        let times = occurred.times;
+    for (refusal, times) in tally.occurred.iter() {
+        let number = refusal.number();
         writeln!(out, "  {number} ({refusal}): {times}")?;
     }
     Ok(())

@@ -1,7 +1,7 @@
 // Carries out the steps of a run sheet.
 ghost use Rattle.std.specs.Prelude.{◌≡◌, ◌+◌, ◌*◌, ◌≤◌, length, IfOk};
 
-use crate::accounts::Accounts;
+use crate::accounts::Account;
 use crate::failure::Failure;
 use crate::files::fill;
 use crate::sheet::{Line, Step};
@@ -14,6 +14,7 @@ use sampling::factors::Factors;
 use sampling::reader::RECORD_BYTES;
 use sampling::state::Sampling;
 use std::alloc::Global;
+use std::collections::BTreeMap;
 use std::fmt::Display;
 use std::fs::File;
 use std::io::{BufWriter, Stdout, Write};
@@ -39,7 +40,8 @@ struct Run {
     energies: Figures,
     tally: Tally,
     book: Book,
-    accounts: Accounts,
+    // By serial.
+    accounts: BTreeMap<u16, Account>,
 }
 
 // A sample interval has a record for the frequency indicator and one for each unit.
@@ -60,7 +62,7 @@ impl Run {
             energies: Figures::none(),
             tally: Tally::new(heap),
             book: Book::open(),
-            accounts: Accounts::new(),
+            accounts: BTreeMap::new(heap),
         })
     }
 

@@ -1,5 +1,5 @@
 // The run sheet: one step a line.
-ghost use Rattle.std.specs.Prelude.{◌≡◌, ℕ, ◌≤◌, IfOk, MatchOption};
+ghost use Rattle.std.specs.Prelude.{◌≡◌, ℕ, ◌≤◌, IfOk, MatchOption, position};
 ghost use Rattle.settle.specs.declared.sheet.NoStep.TheVariants.{NoMemory};
 ghost use Rattle.settle.specs.Choice.{ChoosesAt, FirstFrom, chooses_ledger};
 ghost use Rattle.settle.specs.Sheet.{said_of, words_of, Parsed, texts, AsksAll};
@@ -108,9 +108,8 @@ pub(crate) fn parse(heap: Global, line: &str) -> Result<Option<Step>, NoStep>
 // All steps of a sheet, so that none is carried out before the last is known to be one.
 pub(crate) fn lines(heap: Global, text: &str) -> Result<Vec<Line>, Failure> {
     let mut lines = Vec::new(heap);
-    let mut number = 0usize;
-    for line in text.lines() {
-        number = number.saturating_add(1);
+    for (before, line) in text.lines().enumerate() {
+        let number = before.saturating_add(1);
         match parse(heap, line) {
             Ok(Some(step)) => lines.push(Line { number, step })?,
             Ok(None) => {}
@@ -130,16 +129,19 @@ fn chooses(step: &Step) -> bool
     matches!(step, Step::Table | Step::Journal { .. })
 }
 
-// The first line, from a place on, that chooses a ledger.
+// The first line that chooses a ledger.
+fn first_choosing(lines: &[Line]) -> Option<usize>
+    ensures { result ≡ position (λ line. chooses_ledger line.step) lines.now }
+{
+    lines.iter().position(|line| chooses(&line.step))
+}
+
+// The first from a place on.
 pub(crate) fn choosing(lines: &[Line], from: usize) -> Option<usize>
     ensures { MatchOption result ((k : ℕ) → from ≤ k → ChoosesAt lines.now k → ⊥) (λ k. FirstFrom from lines.now k) }
 {
-    for k in from..lines.len() {
-        if chooses(&lines[k].step) {
-            return Some(k);
-        }
-    }
-    None
+    let after = first_choosing(lines.get(from..)?)?;
+    Some(from + after)
 }
 
 #[cfg(test)]

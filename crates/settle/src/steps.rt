@@ -2,12 +2,13 @@
 ghost use Rattle.std.specs.Prelude.{◌≡◌, [], ◌∷◌, if◌then◌else◌, string_bytes, codes};
 ghost use Rattle.settle.specs.Sheet.{Parsed, texts, Asks};
 
+use crate::numbers::{byte, exactly, number, owners, totals, weights};
 use crate::sheet::{NoStep, Step};
-use crate::{numbers, terms};
+use crate::terms::{heading, terms};
 use session::call::Call;
 use std::alloc::Global;
 
-const REGIONS: usize = 5;
+const REGIONS: usize = energy::source::REGIONS as usize;
 
 // The words of a claim before its terms.
 const HEADING: usize = 4;
@@ -43,153 +44,63 @@ fn anyway(words: &[&str]) -> Result<bool, NoStep>
     }
 }
 
-fn units(heap: Global, words: &[&str]) -> Result<Step, NoStep>
-    ensures { Parsed (λ step. Asks (codes "units") (texts words.now) step) result }
+fn profile(words: &[&str]) -> Result<Step, NoStep>
+    ensures { Parsed (λ step. Asks (codes "profile") (texts words.now) step) result }
 {
-    Ok(Step::Units(numbers::owners(heap, words)?))
-}
-
-fn units_file(heap: Global, words: &[&str]) -> Result<Step, NoStep>
-    ensures { Parsed (λ step. Asks (codes "units-file") (texts words.now) step) result }
-{
-    Ok(Step::UnitsFile(name(heap, words)?))
-}
-
-fn samples(heap: Global, words: &[&str]) -> Result<Step, NoStep>
-    ensures { Parsed (λ step. Asks (codes "samples") (texts words.now) step) result }
-{
-    Ok(Step::Samples(name(heap, words)?))
-}
-
-fn publish(words: &[&str]) -> Result<Step, NoStep>
-    ensures { Parsed (λ step. Asks (codes "publish") (texts words.now) step) result }
-{
-    Ok(Step::Publish {
-        anyway: anyway(words)?,
+    let (first, rest) = words.split_at_checked(REGIONS).ok_or(NoStep::Unknown)?;
+    Ok(Step::Profile {
+        totals: totals(first)?,
+        weights: weights(rest)?,
     })
 }
 
-fn metered(heap: Global, words: &[&str]) -> Result<Step, NoStep>
-    ensures { Parsed (λ step. Asks (codes "metered") (texts words.now) step) result }
-{
-    Ok(Step::Metered(name(heap, words)?))
-}
-
-fn profile(heap: Global, words: &[&str]) -> Result<Step, NoStep>
-    ensures { Parsed (λ step. Asks (codes "profile") (texts words.now) step) result }
-{
-    if words.len() < REGIONS {
-        return Err(NoStep::Unknown);
-    }
-    let (first, rest) = words.split_at(REGIONS);
-    let totals = numbers::totals(heap, first)?;
-    let weights = numbers::weights(heap, rest)?;
-    Ok(Step::Profile { totals, weights })
-}
-
-fn island(heap: Global, words: &[&str]) -> Result<Step, NoStep>
-    ensures { Parsed (λ step. Asks (codes "island") (texts words.now) step) result }
-{
-    Ok(Step::Island(numbers::set(heap, words)?))
-}
-
-fn handover(heap: Global, words: &[&str]) -> Result<Step, NoStep>
+fn handover(words: &[&str]) -> Result<Step, NoStep>
     ensures { Parsed (λ step. Asks (codes "handover") (texts words.now) step) result }
 {
-    let (leaver, successor) = numbers::parties(heap, words)?;
-    Ok(Step::Handover { leaver, successor })
-}
-
-fn totals(words: &[&str]) -> Result<Step, NoStep>
-    ensures { Parsed (λ step. Asks (codes "totals") (texts words.now) step) result }
-{
-    nothing(words)?;
-    Ok(Step::Totals)
-}
-
-fn dispatch(heap: Global, words: &[&str]) -> Result<Step, NoStep>
-    ensures { Parsed (λ step. Asks (codes "dispatch") (texts words.now) step) result }
-{
-    Ok(Step::Dispatch(numbers::set(heap, words)?))
-}
-
-fn table(words: &[&str]) -> Result<Step, NoStep>
-    ensures { Parsed (λ step. Asks (codes "table") (texts words.now) step) result }
-{
-    nothing(words)?;
-    Ok(Step::Table)
+    let [leaver, successor] = exactly::<2>(words, 65_535)?;
+    Ok(Step::Handover {
+        leaver: leaver as u16,
+        successor: successor as u16,
+    })
 }
 
 fn journal(heap: Global, words: &[&str]) -> Result<Step, NoStep>
     ensures { Parsed (λ step. Asks (codes "journal") (texts words.now) step) result }
 {
-    if words.is_empty() {
-        return Err(NoStep::Unknown);
-    }
-    let (first, rest) = words.split_at(1);
-    let records = numbers::single(first, 65_535)?;
-    let name = name(heap, rest)?;
+    let (first, rest) = words.split_first().ok_or(NoStep::Unknown)?;
     Ok(Step::Journal {
-        records: records as u16,
-        name,
+        records: number(*first, 65_535)? as u16,
+        name: name(heap, rest)?,
     })
-}
-
-fn amounts(words: &[&str]) -> Result<Step, NoStep>
-    ensures { Parsed (λ step. Asks (codes "amounts") (texts words.now) step) result }
-{
-    nothing(words)?;
-    Ok(Step::Amounts)
-}
-
-fn records(heap: Global, words: &[&str]) -> Result<Step, NoStep>
-    ensures { Parsed (λ step. Asks (codes "records") (texts words.now) step) result }
-{
-    Ok(Step::Records(name(heap, words)?))
 }
 
 fn split(words: &[&str]) -> Result<Step, NoStep>
     ensures { Parsed (λ step. Asks (codes "split") (texts words.now) step) result }
 {
-    if words.is_empty() {
-        return Err(NoStep::Unknown);
-    }
-    let (first, rest) = words.split_at(1);
-    let part = numbers::single(first, u64::MAX)?;
-    let set = numbers::single(rest, 255)?;
+    let (first, rest) = words.split_first().ok_or(NoStep::Unknown)?;
     Ok(Step::Split {
-        part,
-        set: set as u8,
+        part: number(*first, u64::MAX)?,
+        set: byte(rest)?,
     })
 }
 
-fn declare(heap: Global, words: &[&str]) -> Result<Step, NoStep>
+fn declare(words: &[&str]) -> Result<Step, NoStep>
     ensures { Parsed (λ step. Asks (codes "declare") (texts words.now) step) result }
 {
-    let (number, kind, regions) = numbers::three_bytes(heap, words)?;
+    let [number, kind, regions] = exactly::<3>(words, 255)?;
     Ok(Step::Call(Call::Declare {
-        number,
-        kind,
-        regions,
+        number: number as u8,
+        kind: kind as u8,
+        regions: regions as u8,
     }))
-}
-
-fn withdraw(heap: Global, words: &[&str]) -> Result<Step, NoStep>
-    ensures { Parsed (λ step. Asks (codes "withdraw") (texts words.now) step) result }
-{
-    let number = numbers::byte(heap, words)?;
-    Ok(Step::Call(Call::Withdraw { number }))
 }
 
 fn claim(heap: Global, words: &[&str]) -> Result<Step, NoStep>
     ensures { Parsed (λ step. Asks (codes "claim") (texts words.now) step) result }
 {
-    if words.len() < HEADING {
-        return Err(NoStep::Unknown);
-    }
-    let (first, rest) = words.split_at(HEADING);
-    let (number, interval, marginal_value, part) = terms::heading(first)?;
-    let terms = terms::terms(heap, rest)?;
+    let (first, rest) = words.split_at_checked(HEADING).ok_or(NoStep::Unknown)?;
+    let (number, interval, marginal_value, part) = heading(first)?;
+    let terms = terms(heap, rest)?;
     Ok(Step::Call(Call::Claim {
         number,
         interval,
@@ -199,44 +110,47 @@ fn claim(heap: Global, words: &[&str]) -> Result<Step, NoStep>
     }))
 }
 
-fn recover(heap: Global, words: &[&str]) -> Result<Step, NoStep>
-    ensures { Parsed (λ step. Asks (codes "recover") (texts words.now) step) result }
-{
-    let number = numbers::byte(heap, words)?;
-    Ok(Step::Call(Call::Recover { number }))
-}
-
-fn hand_back(heap: Global, words: &[&str]) -> Result<Step, NoStep>
-    ensures { Parsed (λ step. Asks (codes "return") (texts words.now) step) result }
-{
-    let number = numbers::byte(heap, words)?;
-    Ok(Step::Call(Call::HandBack { number }))
-}
-
 pub(crate) fn asked(heap: Global, keyword: &str, words: &[&str]) -> Result<Step, NoStep>
     ensures { Parsed (λ step. Asks keyword.now (texts words.now) step) result }
 {
     match keyword {
-        "units" => units(heap, words),
-        "units-file" => units_file(heap, words),
-        "samples" => samples(heap, words),
-        "publish" => publish(words),
-        "metered" => metered(heap, words),
-        "profile" => profile(heap, words),
-        "island" => island(heap, words),
-        "handover" => handover(heap, words),
-        "totals" => totals(words),
-        "dispatch" => dispatch(heap, words),
-        "table" => table(words),
+        "units" => Ok(Step::Units(owners(heap, words)?)),
+        "units-file" => Ok(Step::UnitsFile(name(heap, words)?)),
+        "samples" => Ok(Step::Samples(name(heap, words)?)),
+        "publish" => Ok(Step::Publish {
+            anyway: anyway(words)?,
+        }),
+        "metered" => Ok(Step::Metered(name(heap, words)?)),
+        "profile" => profile(words),
+        "island" => Ok(Step::Island(byte(words)?)),
+        "handover" => handover(words),
+        "totals" => {
+            nothing(words)?;
+            Ok(Step::Totals)
+        }
+        "dispatch" => Ok(Step::Dispatch(byte(words)?)),
+        "table" => {
+            nothing(words)?;
+            Ok(Step::Table)
+        }
         "journal" => journal(heap, words),
-        "amounts" => amounts(words),
-        "records" => records(heap, words),
+        "amounts" => {
+            nothing(words)?;
+            Ok(Step::Amounts)
+        }
+        "records" => Ok(Step::Records(name(heap, words)?)),
         "split" => split(words),
-        "declare" => declare(heap, words),
-        "withdraw" => withdraw(heap, words),
+        "declare" => declare(words),
+        "withdraw" => Ok(Step::Call(Call::Withdraw {
+            number: byte(words)?,
+        })),
         "claim" => claim(heap, words),
-        "recover" => recover(heap, words),
-        "return" => hand_back(heap, words),
+        "recover" => Ok(Step::Call(Call::Recover {
+            number: byte(words)?,
+        })),
+        "return" => Ok(Step::Call(Call::HandBack {
+            number: byte(words)?,
+        })),
         _ => Err(NoStep::Unknown),
     }
 }

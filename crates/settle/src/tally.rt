@@ -5,18 +5,12 @@ use foundation::fault::Refusal;
 use std::alloc::{AllocError, Global};
 use std::collections::BTreeMap;
 
-#[derive(Clone, Copy)]
-pub(crate) struct Occurred {
-    pub(crate) refusal: Refusal,
-    pub(crate) times: u64,
-}
-
 #[derive(Drop)]
 pub(crate) struct Tally {
     pub(crate) used: u64,
     pub(crate) refused: u64,
-    // By the refusal's number, which is the order in which they are told.
-    pub(crate) occurred: BTreeMap<u8, Occurred>,
+    // How often each occurred; refusals are in the order of their numbers.
+    pub(crate) occurred: BTreeMap<Refusal, u64>,
 }
 
 impl Tally {
@@ -40,9 +34,8 @@ impl Tally {
         ensures refused { self.new.refused ≡ min (self.old.refused + 1) (2 ^ 64 - 1) }
     {
         self.refused = self.refused.saturating_add(1);
-        let never = Occurred { refusal, times: 0 };
-        let occurred = self.occurred.entry(refusal.number())?.or_insert(never);
-        occurred.times = occurred.times.saturating_add(1);
+        let times = self.occurred.entry(refusal)?.or_insert(0);
+        *times = times.saturating_add(1);
         Ok(())
     }
 }

@@ -19,36 +19,20 @@ pub(crate) fn heading(words: &[&str]) -> Result<(u8, u16, u32, u64), NoStep>
     let [first, second, third, fourth] = words else {
         return Err(NoStep::Unknown);
     };
-    let Some(number_of) = number(*first, 255) else {
-        return Err(NoStep::Unknown);
-    };
-    let Some(interval) = number(*second, 65_535) else {
-        return Err(NoStep::Unknown);
-    };
-    let Some(value) = number(*third, 4_294_967_295) else {
-        return Err(NoStep::Unknown);
-    };
-    let Some(part) = number(*fourth, u64::MAX) else {
-        return Err(NoStep::Unknown);
-    };
+    let number_of = number(*first, 255)?;
+    let interval = number(*second, 65_535)?;
+    let value = number(*third, 4_294_967_295)?;
+    let part = number(*fourth, u64::MAX)?;
     Ok((number_of as u8, interval as u16, value as u32, part))
 }
 
-fn term(words: &[&str]) -> Result<Term, NoStep>
+fn term(words: &[&str; WORDS]) -> Result<Term, NoStep>
     ensures { Parsed (λ t. Termed (texts words.now) (t ∷ [])) result }
 {
-    let [first, second, third] = words else {
-        return Err(NoStep::Unknown);
-    };
-    let Some(region) = number(*first, 255) else {
-        return Err(NoStep::Unknown);
-    };
-    let Some(service) = number(*second, 255) else {
-        return Err(NoStep::Unknown);
-    };
-    let Some(amount) = number(*third, 65_535) else {
-        return Err(NoStep::Unknown);
-    };
+    let [first, second, third] = *words;
+    let region = number(first, 255)?;
+    let service = number(second, 255)?;
+    let amount = number(third, 65_535)?;
     Ok(Term {
         region: region as u8,
         service: service as u8,
@@ -59,12 +43,13 @@ fn term(words: &[&str]) -> Result<Term, NoStep>
 fn all(heap: Global, words: &[&str]) -> Result<Vec<Term>, NoStep>
     ensures { ParsedAs (λ v. v.items) (λ ts. Termed (texts words.now) ts) result }
 {
-    if words.len() % WORDS != 0 {
+    let (terms_in, rest) = words.as_chunks::<WORDS>();
+    if !rest.is_empty() {
         return Err(NoStep::Unknown);
     }
     let mut terms = Vec::new(heap);
-    for k in 0..words.len() / WORDS {
-        terms.push(term(&words[WORDS * k..WORDS * k + WORDS])?)?;
+    for words in terms_in {
+        terms.push(term(words)?)?;
     }
     Ok(terms)
 }

@@ -12,11 +12,11 @@ shares (suc zero) l = refl
 shares (suc (suc zero)) l = refl
 shares (suc (suc (suc k))) l = absurd (omega arith)
 
-pub divide-requires : goal.divide-requires
+pub shares-requires : goal.shares-requires
 unfolding sum_to
-divide-requires c = record { length = refl; fits = omega arith }
+shares-requires c = search rules
 
 pub returns : goal.returns
 returns c =
-    let long : length c.divide.new.shares ≡ 3 = search rules in
-    ext_get_or 0 c.divide.new.shares (3 ∷ 3 ∷ 4 ∷ []) long (λ k l. let m : k < 3 = omega arith in c.divide.ensures.shares k m ∙ shares k m)
+    let long : length c.shares.result ≡ 3 = search rules in
+    ext_get_or 0 c.shares.result (3 ∷ 3 ∷ 4 ∷ []) long (λ k l. let m : k < 3 = omega arith in c.shares.ensures.shares k m ∙ shares k m)

@@ -1,5 +1,6 @@
 // The steps that are calls on the book.
 use super::Run;
+use crate::accounts::Account;
 use crate::counted::Counted;
 use crate::failure::Failure;
 use crate::sheet::{Line, Step};
@@ -9,7 +10,7 @@ use session::call::{Answer, Call};
 use session::run::run;
 use std::alloc::Global;
 
-// Calls that follow one another in the sheet, and their lines.
+// Calls that follow one another in the sheet, and their lines: two vectors, since `run` takes the calls as one slice.
 #[derive(Drop)]
 pub(super) struct Calls {
     calls: Vec<Call>,
@@ -44,11 +45,11 @@ impl Calls {
 
 fn number_in(call: Call) -> u8 {
     match call {
-        Call::Declare { number, .. } => number,
-        Call::Withdraw { number } => number,
-        Call::Claim { number, .. } => number,
-        Call::Recover { number } => number,
-        Call::HandBack { number } => number,
+        Call::Declare { number, .. }
+        | Call::Withdraw { number }
+        | Call::Claim { number, .. }
+        | Call::Recover { number }
+        | Call::HandBack { number } => number,
     }
 }
 
@@ -110,7 +111,8 @@ impl Run {
         else {
             return Ok(());
         };
-        self.accounts.declare(serial, number, kind, regions);
+        let account = Account::opened(number, kind, regions);
+        self.accounts.insert(serial, account)?;
         self.say(
             line,
             format_args!("number {number} declared: serial {serial}"),
@@ -122,7 +124,9 @@ impl Run {
         let serial = claim.serial;
         let interval = claim.interval.number();
         let part = claim.part;
-        self.accounts.claim(serial, part);
+        if let Some(account) = self.accounts.get_mut(&serial) {
+            account.claimed += part;
+        }
         self.say(
             line,
             format_args!(
@@ -147,7 +151,9 @@ impl Run {
             count: lines as usize,
             what: "line",
         };
-        self.accounts.recover(serial, part);
+        if let Some(account) = self.accounts.get_mut(&serial) {
+            account.recovered += part;
+        }
         self.say(
             line,
             format_args!(
@@ -161,7 +167,9 @@ impl Run {
         let serial = claim.serial;
         let interval = claim.interval.number();
         let part = claim.part;
-        self.accounts.hand_back(serial, part);
+        if let Some(account) = self.accounts.get_mut(&serial) {
+            account.handed_back += part;
+        }
         self.say(
             line,
             format_args!(

@@ -108,7 +108,7 @@ impl Run {
         };
         let left = ledger.lines_left();
         self.say(line, format_args!("{amounts}, {left} lines left"))?;
-        for serial in 1..SERIALS + 1 {
+        for serial in 1..=SERIALS {
             for party in 0..PARTIES {
                 self.amount(heap, party, serial, ledger.amount(party, serial))?;
             }
@@ -187,6 +187,7 @@ impl Run {
 fn standing_under<L: Ledger>(ledger: &L, serial: u16) -> usize
     ensures { result ≡ standing_under_serial (L.Ledger.owed ledger.now) serial 64 }
 {
+    // Not a count over a filtered range: what a run of such a filter yields says nothing of what the ledger owes.
     let mut count = 0;
     for party in 0..PARTIES {
         if ledger.amount(party, serial) != 0 {
@@ -201,8 +202,8 @@ fn standing<L: Ledger>(ledger: &L) -> usize
     ensures { result ≡ standing_in (L.Ledger.owed ledger.now) 32 }
 {
     let mut count = 0;
-    for before in 0..SERIALS {
-        count += standing_under(ledger, before + 1);
+    for serial in 1..=SERIALS {
+        count += standing_under(ledger, serial);
     }
     count
 }

@@ -12,10 +12,10 @@ use crate::money::Dollars;
 use energy::source::{EnergySource, PARTIES};
 use recovery::split::Split;
 use sampling::factors::Factors;
-use std::alloc::{AllocError, Global};
+use std::alloc::Global;
 use std::fmt::Display;
-use std::io;
 use std::io::Write;
+use std::{fmt, io};
 
 impl Run {
     pub(super) fn split(
@@ -66,11 +66,11 @@ enum Weight {
     Energy(u64),
 }
 
-impl Weight {
-    fn to_text(self, heap: Global) -> Result<String, AllocError> {
+impl fmt::Display for Weight {
+    fn fmt<W: fmt::Write>(&self, f: &mut fmt::Formatter<W>) -> fmt::Result {
         match self {
-            Weight::Factor(factor) => format!(in heap; "{factor} f"),
-            Weight::Energy(energy) => format!(in heap; "{energy} e"),
+            Weight::Factor(factor) => write!(f, "{factor} f"),
+            Weight::Energy(energy) => write!(f, "{energy} e"),
         }
     }
 }
@@ -122,7 +122,7 @@ impl Row {
         name: impl Display + Drop,
     ) -> Result<(), Failure> {
         let energy = self.energy;
-        let weight = self.weight.to_text(heap)?;
+        let weight = self.weight.to_string(heap)?;
         let share = self.share;
         let dollars = Dollars::of_share(share).to_string(heap)?;
         let exact = self.exact.rounded().to_string(heap)?;

@@ -1,4 +1,4 @@
-use Rattle.std.proofs.Common.{◌≡◌, ℕ, Bool, false, eqb, List, get_or, Decides, arith, lit<, rules}
+use Rattle.std.proofs.Common.{◌≡◌, ℕ, Bool, false, eqb, List, get_or, refl, Decides, arith, lit<, rules}
 use Rattle.std.proofs.lemmas.Str.Pattern.{starts_char}
 use Rattle.settle.proofs.Written.{read_some, read_over, read_none}
 use Rattle.settle.proofs.numbers.number.Goals as goal
@@ -10,16 +10,16 @@ pub returns-in-Ok : goal.returns-in-Ok
 returns-in-Ok c =
     let starts = starts_char 43 c.args.word.now c.starts_with.result c.starts_with.ensures.cases (lit< tt) (lit< tt) in
     let plain = no_plus c.args.word.now c.starts_with.result starts c.if-starts_with.false in
-    read_some c.args.most c.args.word.now plain c.in-Ok.number c.in-Ok.ensures.value.0 c.if-number-most.true
+    record { answer = read_some c.args.most c.args.word.now plain c.in-Ok.number c.in-Ok.ensures.value.0 c.if-number-most.true; why = tt; small = c.if-number-most.true }
 
 pub returns-in_default : goal.returns-in_default
 returns-in_default c =
     let starts = starts_char 43 c.args.word.now c.starts_with.result c.starts_with.ensures.cases (lit< tt) (lit< tt) in
     let plain = no_plus c.args.word.now c.starts_with.result starts c.if-starts_with.false in
-    read_over c.args.most c.args.word.now plain c.in-Ok.number c.in-Ok.ensures.value.0 c.if-number-most.false
+    record { answer = read_over c.args.most c.args.word.now plain c.in-Ok.number c.in-Ok.ensures.value.0 c.if-number-most.false; why = refl; small = tt }
 
 pub returns-in_default-2 : goal.returns-in_default-2
 returns-in_default-2 c =
     let starts = starts_char 43 c.args.word.now c.starts_with.result c.starts_with.ensures.cases (lit< tt) (lit< tt) in
     let plain = no_plus c.args.word.now c.starts_with.result starts c.if-starts_with.false in
-    read_none c.args.most c.args.word.now plain c.in_default.ensures.value.0 (omega arith)
+    record { answer = read_none c.args.most c.args.word.now plain c.in_default.ensures.value.0 (omega arith); why = refl; small = tt }

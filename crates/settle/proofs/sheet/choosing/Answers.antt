@@ -1,27 +1,25 @@
-use Rattle.std.proofs.Common.{◌≡◌, ℕ, ◌<◌, ◌≤◌, sym, subst, ⊎_elim, arith}
-use Rattle.std.proofs.lemmas.Bool.{cases_lt}
-use Rattle.settle.specs.Choice.{ChoosesAt}
-use Rattle.settle.proofs.Chosen.{chooses_at, not_at, at_inside}
+use Rattle.std.proofs.Common.{◌<◌, length, sym, ap, ◌∙◌, arith}
+use Rattle.std.specs.List.{position}
+use Rattle.settle.specs.Choice.{chooses_ledger}
+use Rattle.settle.specs.declared.sheet.Line.{Line}
+use Rattle.settle.proofs.Chosen.{rest_of, none_past, none_from, first_from}
 use Rattle.settle.proofs.sheet.choosing.Goals as goal
 
-pub returns-then-chooses : goal.returns-then-chooses
-returns-then-chooses c =
-    record {
-      onward = c.loop-k.auto.k;
-      inside = c.loop-k-test.true;
-      chosen = chooses_at c.args.lines.now c.loop-k.k c.index-lines-k.result c.loop-k-test.true (sym c.if-chooses.ensures);
-      first = c.loop-k.invariant;
-    }
+pub returns-in_err-get : goal.returns-in_err-get
+returns-in_err-get c =
+    let past : length c.args.lines.now < c.args.from = omega (arith, c.in_err-get.ensures.lookup.0) in
+    rw c.from_residual.ensures (none_past c.args.lines.now c.args.from past)
 
-pub loop-k-preserved : goal.loop-k-preserved
-loop-k-preserved c j onward before chosen =
-    ⊎_elim
-    (λ (l : j < c.loop-k.k). c.loop-k.invariant j onward l chosen)
-    (λ (g : c.loop-k.k ≤ j).
-    let here : j ≡ c.loop-k.k = omega arith in
-    let At : ℕ → Type 0 = λ k. ChoosesAt c.args.lines.now k in
-    not_at c.args.lines.now c.loop-k.k c.index-lines-k.result (sym c.if-chooses.ensures) (subst At here chosen))
-    (cases_lt j c.loop-k.k)
+pub returns-in_err-after : goal.returns-in_err-after
+returns-in_err-after c =
+    let lines = c.args.lines.now in
+    let rest = c.in_ok-get.ensures.lookup.0.2 ∙ rest_of lines c.args.from in
+    let none = sym (c.in_err-after.ensures ∙ ap (position (λ (line : Line). chooses_ledger line.step)) rest) in
+    rw c.from_residual-in_err-after.ensures (none_from lines c.args.from none)
 
 pub returns : goal.returns
-returns c k onward chosen = c.loop-k.invariant k onward (omega (arith, at_inside c.args.lines.now k chosen, c.loop-k-test.false)) chosen
+returns c =
+    let lines = c.args.lines.now in
+    let rest = c.in_ok-get.ensures.lookup.0.2 ∙ rest_of lines c.args.from in
+    let some = sym (c.in_ok-after.ensures ∙ ap (position (λ (line : Line). chooses_ledger line.step)) rest) in
+    first_from lines c.args.from c.in_ok-after.after some

@@ -3,5 +3,5 @@ use Rattle.settle.specs.Sheet.{texts}
 use Rattle.settle.proofs.Termed.{Begun}
 use Rattle.settle.proofs.terms.all.Given as goal
 
-abbrev pub invariant-loop-k : goal.invariant-loop-k
-invariant-loop-k l = Begun (texts l.words) (3 * l.k) (vec_items l.terms)
+abbrev pub invariant-loop-words : goal.invariant-loop-words
+invariant-loop-words l = Begun (texts l.fn.words) (3 * l.words-index) (vec_items l.terms)

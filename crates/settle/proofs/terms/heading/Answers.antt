@@ -1,46 +1,13 @@
-use Rattle.std.proofs.Common.{◌≡◌, length, refl, rules}
+use Rattle.std.proofs.Common.{◌≡◌, ℕ, length, rules}
+use Rattle.std.proofs.lemmas.Result.{err_from_is_err_and}
+use Rattle.settle.specs.Terms.{Heading}
 use Rattle.settle.specs.Sheet.{texts}
-use Rattle.settle.proofs.Termed.{unread, heading_long, four_texts}
-use Rattle.settle.proofs.Words.{nowhere, length_texts}
+use Rattle.settle.proofs.Termed.{four_texts}
+use Rattle.settle.proofs.Words.{nowhere, refused}
 use Rattle.settle.proofs.terms.heading.Goals as goal
 
-pub returns-in_default : goal.returns-in_default
-returns-in_default c u h =
-    let four = heading_long (texts c.args.words.now) u.0 u.1 u.2 u.3 h in
-    let same = length_texts c.args.words.now _ refl in
-    search rules
-
-pub returns-in_default-2 : goal.returns-in_default-2
-returns-in_default-2 c u h =
-    let four = heading_long (texts c.args.words.now) u.0 u.1 u.2 u.3 h in
-    let same = length_texts c.args.words.now _ refl in
-    search rules
-
-pub returns-in_default-number : goal.returns-in_default-number
-returns-in_default-number c u h =
+pub returns-in_err-part : goal.returns-in_err-part
+returns-in_err-part c =
     let four : length c.args.words.now ≡ 4 = search rules in
-    let said = rw (four_texts c.args.words.now nowhere four) at h in
-    unread 255 _ u.0 c.in_default-number.ensures said.0
-
-pub returns-in_default-number-2 : goal.returns-in_default-number-2
-returns-in_default-number-2 c u h =
-    let four : length c.args.words.now ≡ 4 = search rules in
-    let said = rw (four_texts c.args.words.now nowhere four) at h in
-    unread 65535 _ u.1 c.in_default-number-2.ensures said.1.0
-
-pub returns-in_default-number-3 : goal.returns-in_default-number-3
-returns-in_default-number-3 c u h =
-    let four : length c.args.words.now ≡ 4 = search rules in
-    let said = rw (four_texts c.args.words.now nowhere four) at h in
-    unread 4294967295 _ u.2 c.in_default-number-3.ensures said.1.1.0
-
-pub returns-in_default-number-4 : goal.returns-in_default-number-4
-returns-in_default-number-4 c u h =
-    let four : length c.args.words.now ≡ 4 = search rules in
-    let said = rw (four_texts c.args.words.now nowhere four) at h in
-    unread 18446744073709551615 _ u.3 c.in_default-number-4.ensures said.1.1.1
-
-pub returns : goal.returns
-returns c =
-    let four : length c.args.words.now ≡ 4 = search rules in
-    rw (four_texts c.args.words.now nowhere four) (c.in-Some.ensures, (c.in-Some-number.ensures, (c.in-Some-number-2.ensures, c.in-Some-number-3.ensures)))
+    let why = err_from_is_err_and c.from_residual-in_err-part.result c.from_residual-in_err-part.ensures.1 in
+    rw (why.1, why.2) (refused _ (λ h. h) (λ (h : ℕ × ℕ × ℕ × ℕ). Heading (texts c.args.words.now) h.0 h.1 h.2 h.3) (λ h said. (h.3, (rw (four_texts c.args.words.now nowhere four) at said).1.1.1)) c.in_err-part.field-0.0 c.in_err-part.ensures.answer)
