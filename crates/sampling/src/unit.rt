@@ -8,6 +8,7 @@ ghost use Rattle.sampling.specs.Records.{Inside};
 use crate::category::{Category, Sums};
 use crate::reader::{RECORD_BYTES, Record, VALUES};
 
+// The owner is the byte that was registered: its place in the tables of 65 owners.
 #[derive(Clone, Copy)]
 pub struct Unit {
     pub owner: u8,
@@ -27,7 +28,8 @@ fn products(indicator: &[i16; VALUES], values: &[i16; VALUES], raise: bool, lowe
     sums
 }
 
-// Adds an accepted interval to each unit, from the records in order.
+// Adds an accepted interval to each unit, from the records in order. The units go by their place: a loop over `iter_mut`
+// beside the records has no name for the slice, so no invariant could say what was written.
 pub(crate) fn add_products(units: &mut [Unit], bytes: &[u8])
     requires few { length units.old ≤ 256 }
     requires bounded { Bounded 8063 units.old }

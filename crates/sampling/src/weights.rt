@@ -62,6 +62,7 @@ impl<'a> Summed<'a> {
     fn subtotal(&self, owner: u8, category: Category) -> i64
         ensures { result ≡ subtotal (sampled self.now.units.now self.now.used) owner category }
     {
+        // One by one, since the bound of a signed sum has to be shown at each addend.
         let mut sum = 0;
         for unit in self.units {
             sum += part_of(unit, self.used, owner, category);

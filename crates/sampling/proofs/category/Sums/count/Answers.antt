@@ -1,10 +1,16 @@
-use Rattle.std.proofs.Common.{cond, pos, ◌+ℤ◌, sym, ap, ◌∙◌, w16}
+use Rattle.std.proofs.Common.{cond, pos, ◌+ℤ◌, sym, ap, ◌∙◌, arith, w16}
 use lib.IntN.{+ℤ_idr}
 use Rattle.std.proofs.lemmas.Int.{to_z-of_z}
 use Rattle.sampling.specs.Category.{same, sum_in}
 use Rattle.sampling.proofs.Products.{product_some, product_none}
-use Rattle.foundation.proofs.Signed.{product_is}
+use Rattle.foundation.proofs.Signed.{product_small, product_is}
 use Rattle.sampling.proofs.category.Sums.count.Goals as goal
+
+pub add-requires : goal.add-requires
+add-requires c = record {
+  sums = c.requires;
+  product = rw (product_is c.args.deviation c.args.indicator c.ranges.deviation c.ranges.indicator) (omega (arith, product_small c.args.deviation c.args.indicator c.ranges.deviation c.ranges.indicator));
+}
 
 pub returns-in-Some : goal.returns-in-Some
 returns-in-Some c d =
