@@ -88,14 +88,11 @@ impl Metered {
     pub fn new(bytes: &[u8]) -> Metered
         ensures { (p r : ℕ) → figure_of result.figures.rows p r ≡ metered_kwh bytes.now p r }
     {
-        match Metered::check(bytes) {
-            Ok(()) => Metered {
-                figures: summed_up(bytes),
-            },
-            Err(_) => Metered {
-                figures: Figures::none(),
-            },
-        }
+        let figures = match Metered::check(bytes) {
+            Ok(()) => summed_up(bytes),
+            Err(_) => Figures::none(),
+        };
+        Metered { figures }
     }
 }
 

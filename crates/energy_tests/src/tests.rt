@@ -16,9 +16,7 @@ const RECORD: usize = 8;
 fn five(heap: Global) -> Result<Vec<u8>, AllocError> {
     let mut bytes = Vec::new(heap);
     for k in 0..5u8 {
-        for byte in [0, k + 1, k, 0, 0, 0, 0, 10] {
-            bytes.push(byte)?;
-        }
+        bytes.extend_from_slice(&[0, k + 1, k, 0, 0, 0, 0, 10])?;
     }
     Ok(bytes)
 }
@@ -32,29 +30,22 @@ fn put(bytes: &mut Vec<u8>, at: usize, value: u8) {
 // A record's kWh, in its last four bytes.
 fn put_kwh(bytes: &mut Vec<u8>, record: usize, kwh: u32) {
     if record < 1_000 {
-        let at = RECORD * record + 4;
-        put(bytes, at, (kwh / 16_777_216) as u8);
-        put(bytes, at + 1, (kwh / 65_536 % 256) as u8);
-        put(bytes, at + 2, (kwh / 256 % 256) as u8);
-        put(bytes, at + 3, (kwh % 256) as u8);
+        for (k, byte) in kwh.to_be_bytes().iter().enumerate() {
+            put(bytes, RECORD * record + 4 + k, *byte);
+        }
     }
 }
 
 fn is_refused<T: Drop>(answer: Result<T, Fault>, number: u8, place: usize) -> bool {
-    match answer {
-        Ok(_) => false,
-        Err(fault) => fault.refusal.number() == number
-            && fault.layer.number() == 2
-            && fault.place == place,
-    }
+    answer.is_err_and(|fault| {
+        fault.refusal.number() == number && fault.layer.number() == 2 && fault.place == place
+    })
 }
 
 fn sum(source: &impl EnergySource) -> u32 {
-    let mut sum = 0u32;
-    for region in 0..5 {
-        sum = sum.saturating_add(source.total(region));
-    }
-    sum
+    (0..5)
+        .map(|region| source.total(region))
+        .fold(0, u32::saturating_add)
 }
 
 #[test]
@@ -141,15 +132,11 @@ fn equal_pairs_add_up(rt: HostRuntime) -> Result<(), Fail> {
 fn profiles(rt: HostRuntime) -> Result<(), Fail> {
     let mut weights = [0u16; 64];
     assert!(rt; is_refused(Profile::new([40_000_000, 0, 0, 0, 1], weights), 19, 0));
-    let Ok(empty) = Profile::new([39_999_999, 0, 0, 0, 1], weights) else {
-        return Err(Fail::new("refused"));
-    };
+    let empty = Profile::new([39_999_999, 0, 0, 0, 1], weights)?;
     assert!(rt; sum(&empty) == 0);
     weights[3] = 1;
     weights[7] = 2;
-    let Ok(profile) = Profile::new([10, 0, 4, 0, 0], weights) else {
-        return Err(Fail::new("refused"));
-    };
+    let profile = Profile::new([10, 0, 4, 0, 0], weights)?;
     assert!(rt; profile.energy(3, 0) == 3 && profile.energy(7, 0) == 7);
     assert!(rt;
         profile.energy(3, 2) == 1 && profile.energy(7, 2) == 3 && profile.energy(0, 0) == 0
@@ -185,10 +172,10 @@ fn sets_of_the_dispatch_figure(rt: HostRuntime) {
     let heap = rt.alloc();
     let factors = Sampling::open(heap).publish();
     let none = Figures::none();
-    assert!(rt; is_refused(dispatch_figure(&factors, &none, 0), 2, 0));
-    assert!(rt; is_refused(dispatch_figure(&factors, &none, 32), 2, 0));
-    assert!(rt; is_refused(dispatch_figure(&factors, &none, 255), 2, 0));
-    assert!(rt;
-        dispatch_figure(&factors, &none, 31).is_ok() && dispatch_figure(&factors, &none, 1).is_ok()
-    );
+    for set in [0, 32, 255] {
+        assert!(rt; is_refused(dispatch_figure(&factors, &none, set), 2, 0));
+    }
+    for set in [31, 1] {
+        assert!(rt; dispatch_figure(&factors, &none, set).is_ok());
+    }
 }

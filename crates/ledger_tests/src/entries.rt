@@ -10,49 +10,38 @@ const BYTES: [u8; 53] = [
     0xff, 0xff, 0xd1, 0x6f, 0x12, 0x30, 0, 0, 1, 0, 1, 0,
 ];
 
-fn reads(k: usize, party: u16, serial: u16, zero: u32, line: i64) -> bool {
-    match entry_at(&BYTES, k) {
-        None => false,
-        Some(entry) => entry.party == party
-            && entry.serial == serial
-            && entry.zero == zero
-            && entry.line == line,
-    }
-}
-
-fn is_ledgers(party: u16, serial: u16, zero: u32, line: i64) -> bool {
-    let entry = Entry {
+fn entry(party: u16, serial: u16, zero: u32, line: i64) -> Entry {
+    Entry {
         party,
         serial,
         zero,
         line,
-    };
-    entry.is_ledgers()
+    }
 }
 
 fn is_ledgers_at(k: usize) -> bool {
-    match entry_at(&BYTES, k) {
-        None => false,
-        Some(entry) => entry.is_ledgers(),
-    }
+    entry_at(&BYTES, k).is_some_and(|entry| entry.is_ledgers())
 }
 
 #[test]
 fn records_read_back(rt: HostRuntime) {
-    assert!(rt; reads(0, 1, 1, 0, -316_097));
-    assert!(rt; reads(1, 65_534, 32_769, 16_909_060, i64::MAX));
-    assert!(rt; reads(2, 63, 32, 0, -200_000_000_000));
+    assert_eq!(rt; entry_at(&BYTES, 0), Some(entry(1, 1, 0, -316_097)));
+    assert_eq!(rt;
+        entry_at(&BYTES, 1),
+        Some(entry(65_534, 32_769, 16_909_060, i64::MAX))
+    );
+    assert_eq!(rt;
+        entry_at(&BYTES, 2),
+        Some(entry(63, 32, 0, -200_000_000_000))
+    );
     assert!(rt; is_ledgers_at(0) && !is_ledgers_at(1) && is_ledgers_at(2));
 }
 
 // Whether there are so many records to read, and no more.
 fn has_records(bytes: &[u8], records: usize) -> bool {
-    for k in 0..records {
-        if entry_at(bytes, k).is_none() {
-            return false;
-        }
-    }
-    entry_at(bytes, records).is_none() && entry_at(bytes, usize::MAX).is_none()
+    (0..records).all(|k| entry_at(bytes, k).is_some())
+        && entry_at(bytes, records).is_none()
+        && entry_at(bytes, usize::MAX).is_none()
 }
 
 #[test]
@@ -76,12 +65,16 @@ fn records_past_the_end(rt: HostRuntime) -> Result<(), Fail> {
 
 #[test]
 fn records_of_a_ledger(rt: HostRuntime) {
-    assert!(rt; is_ledgers(0, 1, 0, 0) && is_ledgers(63, 32, 0, -200_000_000_000));
-    assert!(rt; !is_ledgers(64, 1, 0, 0) && !is_ledgers(65_535, 1, 0, 0));
+    assert!(rt; entry(0, 1, 0, 0).is_ledgers() && entry(63, 32, 0, -200_000_000_000).is_ledgers());
+    assert!(rt; !entry(64, 1, 0, 0).is_ledgers() && !entry(65_535, 1, 0, 0).is_ledgers());
     assert!(rt;
-        !is_ledgers(0, 0, 0, 0) && !is_ledgers(0, 33, 0, 0) && !is_ledgers(0, 65_535, 0, 0)
+        !entry(0, 0, 0, 0).is_ledgers()
+            && !entry(0, 33, 0, 0).is_ledgers()
+            && !entry(0, 65_535, 0, 0).is_ledgers()
     );
-    assert!(rt; !is_ledgers(0, 1, 0, 1) && !is_ledgers(0, 1, 0, i64::MAX));
-    assert!(rt; !is_ledgers(0, 1, 0, -200_000_000_001) && !is_ledgers(0, 1, 0, i64::MIN));
-    assert!(rt; !is_ledgers(0, 1, 1, 0) && !is_ledgers(0, 1, 0x0100_0000, 0));
+    assert!(rt; !entry(0, 1, 0, 1).is_ledgers() && !entry(0, 1, 0, i64::MAX).is_ledgers());
+    assert!(rt;
+        !entry(0, 1, 0, -200_000_000_001).is_ledgers() && !entry(0, 1, 0, i64::MIN).is_ledgers()
+    );
+    assert!(rt; !entry(0, 1, 1, 0).is_ledgers() && !entry(0, 1, 0x0100_0000, 0).is_ledgers());
 }

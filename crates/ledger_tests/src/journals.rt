@@ -41,11 +41,7 @@ fn old_byte(at: usize, is_record: bool) -> u8 {
 }
 
 fn old_bytes(heap: Global, length: usize, is_record: bool) -> Result<Vec<u8>, AllocError> {
-    let mut bytes = Vec::new(heap);
-    for at in 0..length {
-        bytes.push(old_byte(at, is_record))?;
-    }
-    Ok(bytes)
+    (0..length).map(|at| old_byte(at, is_record)).collect(heap)
 }
 
 // Line k has a party, a serial and an amount of its own.
@@ -67,18 +63,15 @@ fn new_byte(k: u16, at: usize) -> u8 {
 
 // Whether the bytes begin with the records of so many lines, and are all else what they were.
 fn holds(bytes: &[u8], lines: u16, is_record: bool) -> bool {
-    for at in 0..bytes.len() {
+    bytes.iter().enumerate().all(|(at, byte)| {
         let k = at / 16;
         let expected = if k < lines as usize {
             new_byte(k as u16, at % 16)
         } else {
             old_byte(at, is_record)
         };
-        if bytes[at] != expected {
-            return false;
-        }
-    }
-    true
+        *byte == expected
+    })
 }
 
 fn is_new(journal: &Journal, room: u16) -> bool {

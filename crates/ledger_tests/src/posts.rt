@@ -63,33 +63,24 @@ const OF_SEVERAL: [(u16, u16, i64); 4] = [
 ];
 
 pub(crate) fn is_refused(answer: Result<(), Fault>, number: u8) -> bool {
-    match answer {
-        Ok(()) => false,
-        Err(fault) => fault.refusal.number() == number
-            && fault.layer.number() == 4
-            && fault.place == 0,
-    }
+    answer.is_err_and(|fault| {
+        fault.refusal.number() == number && fault.layer.number() == 4 && fault.place == 0
+    })
 }
 
 fn amount_in(amounts: &[(u16, u16, i64)], party: u16, serial: u16) -> i64 {
-    for amount in amounts {
-        if amount.0 == party && amount.1 == serial {
-            return amount.2;
-        }
-    }
-    0
+    amounts
+        .iter()
+        .find(|amount| amount.0 == party && amount.1 == serial)
+        .map_or(0, |amount| amount.2)
 }
 
 // Whether these are the amounts, and all others are 0, also those of no party or serial.
 pub(crate) fn has<L: Ledger>(ledger: &L, amounts: &[(u16, u16, i64)]) -> bool {
-    for party in 0..66 {
-        for serial in 0..35 {
-            if ledger.amount(party, serial) != amount_in(amounts, party, serial) {
-                return false;
-            }
-        }
-    }
-    ledger.amount(65_535, 1) == 0 && ledger.amount(1, 65_535) == 0
+    (0..66).all(|party| {
+        (0..35).all(|serial| ledger.amount(party, serial) == amount_in(amounts, party, serial))
+    }) && ledger.amount(65_535, 1) == 0
+        && ledger.amount(1, 65_535) == 0
 }
 
 // Whether each bad post gets 2 and takes no line.
@@ -104,9 +95,9 @@ pub(crate) fn refuses_bad<L: Ledger>(ledger: &mut L, left: u32) -> bool {
 
 // Whether each line is taken, and takes one line.
 fn takes<L: Ledger>(ledger: &mut L, lines: &[(u16, u16, i64)]) -> bool {
-    for line in lines {
+    for (party, serial, line) in lines {
         let left = ledger.lines_left();
-        if ledger.post(line.0, line.1, line.2).is_err()
+        if ledger.post(*party, *serial, *line).is_err()
             || ledger.lines_left() != left.saturating_sub(1)
         {
             return false;

@@ -14,7 +14,7 @@ pub overflow_add-sum : goal.overflow_add-sum
 overflow_add-sum g c =
     let f = g.L.Ledger.owed c.args.ledger.now in
     let s = c.args.serial in
-    let most = (g.L.Ledger.bounded c.args.ledger.now).all in
+    let most = (g.met.L.Ledger.bounded c.args.ledger.now).all in
     let sum = sum_size f s c.loop-party.party (omega (arith, c.loop-party-test.true)) in
     let one = one_size f s c.loop-party.party c.loop-party-test.true in
     rw c.loop-party.invariant (running_fits (sum_to_int c.loop-party.party (λ p. seen f p s)) c.amount-sum.result (omega (arith, sum, most)) (rw c.amount-sum.ensures.answer (omega (arith, one, most))))
@@ -23,7 +23,7 @@ pub loop-party-preserved : goal.loop-party-preserved
 loop-party-preserved g c =
     let f = g.L.Ledger.owed c.args.ledger.now in
     let s = c.args.serial in
-    let most = (g.L.Ledger.bounded c.args.ledger.now).all in
+    let most = (g.met.L.Ledger.bounded c.args.ledger.now).all in
     let sum = sum_size f s c.loop-party.party (omega (arith, c.loop-party-test.true)) in
     let one = one_size f s c.loop-party.party c.loop-party-test.true in
     let next : suc c.loop-party.party ≡ c.loop-party.party + 1 = omega arith in
