@@ -4,6 +4,7 @@ ghost use Rattle.energy.specs.Energy.{total_of};
 
 use super::{Run, unusable};
 use crate::failure::Failure;
+use crate::numbers::{PARTIES, REGIONS};
 use energy::dispatch::dispatch_figure;
 use energy::figures::Figures;
 use energy::handover::Handover;
@@ -47,8 +48,8 @@ impl Run {
     pub(super) fn profile(
         &mut self,
         line: usize,
-        totals: [u32; 5],
-        weights: [u16; 64],
+        totals: [u32; REGIONS],
+        weights: [u16; PARTIES],
     ) -> Result<(), Failure> {
         match Profile::new(totals, weights) {
             Ok(profile) => {
@@ -99,13 +100,13 @@ impl Run {
 }
 
 // The totals of regions 0 to 4.
-fn totals<E: EnergySource>(source: &E) -> [u32; 5]
+fn totals<E: EnergySource>(source: &E) -> [u32; REGIONS]
     ensures { result ≡ total_of (E.EnergySource.kwh source.now) 0 ∷ total_of (E.EnergySource.kwh source.now) 1 ∷ total_of (E.EnergySource.kwh source.now) 2 ∷ total_of (E.EnergySource.kwh source.now) 3 ∷ total_of (E.EnergySource.kwh source.now) 4 ∷ [] }
 {
     array::from_fn(|region| source.total(region as u8))
 }
 
-fn sum(of: &[u32; 5]) -> u64
+fn sum(of: &[u32; REGIONS]) -> u64
     ensures { result ≡ sum of.now }
 {
     of.iter().map(|total| u64::from(*total)).sum()
