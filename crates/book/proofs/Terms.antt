@@ -10,6 +10,10 @@ use Rattle.book.specs.declared.term.Term.{Term}
 use Rattle.book.specs.Calls.{amount_at, is_term, number_fault, region_at, service_at}
 use Rattle.book.specs.Checks.{Ranged, request_fault, terms_fault}
 
+-- what stands past the end of a list of terms
+abbrev pub no_term : Term
+no_term = record { region = 0; service = 0; amount = 0 }
+
 -- a region that there is lies in a set where the test says so
 pub member_is : (D r : ℕ) (b : Bool) → r < 5 → b ≡ (ltb r 5 && member D r) → member D r ≡ b
 member_is D r b low e = let t : ltb r 5 ≡ true = grind (arith, nat_tests) in sym (e ∙ ap (λ x. x && member D r) t)

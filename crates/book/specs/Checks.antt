@@ -1,6 +1,7 @@
 -- What a caller asks, judged before its number's state counts.
-use Rattle.std.specs.Prelude.{◌≡◌, ℕ, ◌<◌, ◌≤◌, Bool, cond, not, ◌&&◌, List, length, Option, ◌==◌, nat_eq, nat_le}
-use Rattle.foundation.specs.Fault.{Refused, unless_in}
+use Rattle.std.specs.Prelude.{◌≡◌, ℕ, ◌<◌, ◌≤◌, Bool, cond, not, ◌&&◌, List, length, Option, Result, IfOk, ◌==◌, nat_eq, nat_le}
+use Rattle.foundation.specs.declared.fault.Fault.{Fault}
+use Rattle.foundation.specs.Fault.{Refused, refusal, unless_in}
 use Rattle.foundation.specs.First.{all_to, first_to, or_else}
 use Rattle.energy.specs.Energy.{member}
 use Rattle.book.specs.declared.state.Kind.{Kind}
@@ -18,6 +19,11 @@ set_fault regions = unless_in 3 (nat_le 1 regions && nat_le regions 31) 2 0
 
 abbrev pub kind_of : ℕ → Kind
 kind_of kind = cond (kind == 1) Regulation Delayed
+
+-- 1 and 2 are kinds, and every other number is refused
+pub record IsKind (kind : ℕ) (r : Result Kind Fault) : Type 0 where
+  pub answer : refusal r ≡ kind_fault kind
+  pub value : IfOk r (λ k. k ≡ kind_of kind)
 
 -- a declaration's figures
 abbrev pub declaration_fault : (number kind regions : ℕ) → Option Refused

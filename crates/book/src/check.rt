@@ -7,17 +7,13 @@ ghost use Rattle.book.specs.Checks.{Proposes, Ranged, declaration_fault, kind_of
 use crate::state::Kind;
 use crate::state::table::Proposal;
 use crate::term::{Term, first_outside, is_delayed, payment};
+use energy::island::ALL_REGIONS;
+use energy::source::REGIONS;
 use foundation::fault::{Fault, Layer, Refusal};
 use foundation::interval::WeekInterval;
 
 // Numbers are counted from 1.
 pub(crate) const NUMBERS: u8 = 16;
-
-const KINDS: u8 = 2;
-// The set of all five regions.
-const ALL_REGIONS: u8 = 31;
-
-const REGIONS: u8 = 5;
 
 const SERVICES: u8 = 2;
 
@@ -48,16 +44,11 @@ pub(crate) fn check_declaration(number: u8, kind: u8, regions: u8) -> Result<Kin
     ensures value { IfOk result (λ k. k ≡ kind_of kind) }
 {
     check_number(number)?;
-    if kind < 1 || kind > KINDS {
-        return Err(out_of_range(0));
-    }
+    let asked = Kind::try_from(kind)?;
     if regions < 1 || regions > ALL_REGIONS {
         return Err(out_of_range(0));
     }
-    if kind == 1 {
-        return Ok(Kind::Regulation);
-    }
-    Ok(Kind::Delayed)
+    Ok(asked)
 }
 
 fn check_term(term: Term, place: usize) -> Result<(), Fault>

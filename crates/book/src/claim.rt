@@ -5,7 +5,7 @@ use foundation::interval::WeekInterval;
 mod spending;
 
 // The four figures by which a claim is known.
-#[derive(Clone, Copy)]
+#[derive(Clone, Copy, PartialEq, Eq, Debug)]
 pub struct OpenClaim {
     pub number: u8,
     pub serial: u16,

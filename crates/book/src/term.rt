@@ -5,12 +5,11 @@ ghost use Rattle.book.specs.Calls.{amount_at, payment as payment_for, region_at}
 ghost use Rattle.book.specs.Checks.{is_delayed, outer_fault};
 ghost use Rattle.book.specs.Table.{outside_fault};
 
+use crate::state::Kind;
 use energy::island::in_set;
 
-const REGULATION: u8 = 1;
-
 // All three as the caller gives them; the claim refuses what is out of range.
-#[derive(Clone, Copy)]
+#[derive(Clone, Copy, PartialEq, Eq, Debug)]
 pub struct Term {
     pub region: u8,
     pub service: u8,
@@ -22,12 +21,9 @@ pub struct Term {
 pub(crate) fn is_delayed(terms: &[Term]) -> bool
     ensures { result ≡ is_delayed terms.now }
 {
-    for term in terms {
-        if term.service != REGULATION {
-            return true;
-        }
-    }
-    false
+    terms
+        .iter()
+        .any(|term| term.service != Kind::Regulation as u8)
 }
 
 // The first term whose region is not in a set.
@@ -35,12 +31,7 @@ pub(crate) fn first_outside(terms: &[Term], regions: u8) -> Option<usize>
     requires { (k : ℕ) → k < length terms.now → region_at terms.now k < 5 }
     ensures { outside_fault result ≡ outer_fault regions terms.now }
 {
-    for (place, term) in terms.iter().enumerate() {
-        if !in_set(regions, term.region) {
-            return Some(place);
-        }
-    }
-    None
+    terms.iter().position(|term| !in_set(regions, term.region))
 }
 
 fn enabled(terms: &[Term]) -> u64
@@ -48,11 +39,7 @@ fn enabled(terms: &[Term]) -> u64
     ensures value { result ≡ sum_to (length terms.now) (amount_at terms.now) }
     ensures small { result ≤ 655350 }
 {
-    let mut sum = 0;
-    for term in terms {
-        sum += u64::from(term.amount);
-    }
-    sum
+    terms.iter().map(|term| u64::from(term.amount)).sum()
 }
 
 // What the enabled amounts cost, in ticks.

@@ -1,5 +1,7 @@
 -- Laws of metered records.
-use Rattle.std.proofs.Common.{◌≡◌, ℕ, suc, ◌+◌, ◌/◌, ◌%◌, ◌<◌, ◌≤◌, Bool, true, false, cond, ◌&&◌, eqb, leb, List, length, Some, None, Option, sym, refl, ap, ◌∙◌, add-one, arith}
+use Rattle.std.proofs.Common.{◌≡◌, ℕ, suc, ◌+◌, ◌/◌, ◌%◌, ◌<◌, ◌≤◌, Bool, true, false, cond, ◌&&◌, eqb, leb, List, [], length, Some, None, Option, sym, refl, ap, ◌∙◌, subst, add-one, arith}
+use Rattle.std.specs.Prelude.{slice_index_or}
+use Rattle.std.specs.Simd.{first_chunks}
 use borrow.Author.Tests.{true-leb}
 use Rattle.std.proofs.lemmas.Bool.Decides.{nat_tests}
 use Rattle.foundation.specs.Fault.{Refused}
@@ -7,20 +9,39 @@ use Rattle.foundation.specs.First.{first_to}
 use Rattle.foundation.specs.Sums.{sum_to}
 use Rattle.foundation.proofs.First.{first_to_all, first_to_at, first_to_silent, or_else_left, or_else_right, some_none}
 use Rattle.foundation.proofs.Sums.{sum_to_none, sum_to_more}
-use Rattle.energy.specs.Metered.{in_energies, unless, party_at, region_at, zero_at, kwh_at, fields_fault, record_fault, metered_fault, summed}
+use Rattle.foundation.specs.Bytes.{number_at}
+use Rattle.foundation.proofs.Chunks.{chunk_at}
+use Rattle.foundation.proofs.Numbers.{number_in}
+use Rattle.energy.specs.declared.metered.Reading.{Reading}
+use Rattle.energy.specs.Metered.{ReadingAt, in_energies, unless, party_at, region_at, zero_at, kwh_at, fields_fault, record_fault, metered_fault, summed}
 use Rattle.energy.specs.Table.{bumped}
+
+pub bad_length : (b : List ℕ) → (eqb (length b % 8) 0 && leb (length b / 8) 4096) ≡ false → Some (in_energies 1 0) ≡ metered_fault b
+unfolding metered_fault
+bad_length b h = rw h refl
 
 judged : (b : List ℕ) → length b % 8 ≡ 0 → length b / 8 ≤ 4096 → metered_fault b ≡ first_to (length b / 8) (record_fault b)
 unfolding metered_fault
 judged b whole few = grind (arith, nat_tests)
 
-pub record_held : (b : List ℕ) (k party region none before kwh : ℕ) → party ≡ party_at b k → region ≡ region_at b k → none ≡ zero_at b k → before ≡ sum_to k (kwh_at b) → kwh ≡ kwh_at b k → fields_fault k party region none before kwh ≡ record_fault b k
-record_held b k party region none before kwh p r z s w =
-    ap (λ x. fields_fault k x region none before kwh) p
-    ∙ ap (λ x. fields_fault k (party_at b k) x none before kwh) r
-    ∙ ap (λ x. fields_fault k (party_at b k) (region_at b k) x before kwh) z
-    ∙ ap (λ x. fields_fault k (party_at b k) (region_at b k) (zero_at b k) x kwh) s
-    ∙ ap (fields_fault k (party_at b k) (region_at b k) (zero_at b k) (sum_to k (kwh_at b))) w
+-- record k of the bytes as they are cut into records
+pub reading_at : (b : List ℕ) (records : List (List ℕ)) (n k : ℕ) (r : Reading) → records ≡ first_chunks 8 n b → k < n → ReadingAt (slice_index_or records k []) 0 r → ReadingAt b k r
+reading_at b records n k r cut l at =
+    let here = subst (λ x. ReadingAt (slice_index_or x k []) 0 r) cut at in
+    record {
+      party = here.party ∙ number_in 8 n b k 0 l (omega arith) ∙ ap (number_at b) (omega arith);
+      region = here.region ∙ chunk_at 8 n b k 2 l (omega arith);
+      rest = here.rest ∙ chunk_at 8 n b k 3 l (omega arith);
+      kwh = omega (arith, here.kwh, number_in 8 n b k 4 l (omega arith), number_in 8 n b k 6 l (omega arith));
+    }
+
+pub record_held : (b : List ℕ) (k before : ℕ) (r : Reading) → ReadingAt b k r → before ≡ sum_to k (kwh_at b) → fields_fault k r.party r.region r.zero before r.kwh ≡ record_fault b k
+record_held b k before r at s =
+    ap (λ x. fields_fault k x r.region r.zero before r.kwh) at.party
+    ∙ ap (λ x. fields_fault k (party_at b k) x r.zero before r.kwh) at.region
+    ∙ ap (λ x. fields_fault k (party_at b k) (region_at b k) x before r.kwh) at.rest
+    ∙ ap (λ x. fields_fault k (party_at b k) (region_at b k) (zero_at b k) x r.kwh) s
+    ∙ ap (fields_fault k (party_at b k) (region_at b k) (zero_at b k) (sum_to k (kwh_at b))) at.kwh
 
 pub first_bad : (b : List ℕ) (k : ℕ) (a : Refused) → length b % 8 ≡ 0 → length b / 8 ≤ 4096 → k < length b / 8 → ((j : ℕ) → j < k → record_fault b j ≡ None) → record_fault b k ≡ Some a → Some a ≡ metered_fault b
 first_bad b k a whole few l before e = sym (judged b whole few ∙ first_to_at (length b / 8) (record_fault b) k a l before e)
@@ -76,11 +97,15 @@ unfolding summed
 summed_more b k p r = sum_to_more k _ ∙ ap (λ n. summed b k p r + n) (sym (same_pair (party_at b k) p (region_at b k) r (kwh_at b k)))
 
 -- one record more is added to the figures
-pub summed_bumped : (b : List ℕ) (k party region kwh : ℕ) (f : ℕ → ℕ → ℕ) (p r : ℕ) → party ≡ party_at b k → region ≡ region_at b k → kwh ≡ kwh_at b k → f p r ≡ summed b k p r → bumped party region kwh f p r ≡ summed b (k + 1) p r
-summed_bumped b k party region kwh f p r e g w h =
-    ap (λ n. n + cond (eqb r region) (cond (eqb p party) kwh 0) 0) h
-    ∙ ap (λ x. summed b k p r + cond (eqb r region) (cond (eqb p x) kwh 0) 0) e
-    ∙ ap (λ x. summed b k p r + cond (eqb r x) (cond (eqb p (party_at b k)) kwh 0) 0) g
-    ∙ ap (λ x. summed b k p r + cond (eqb r (region_at b k)) (cond (eqb p (party_at b k)) x 0) 0) w
+pub summed_bumped : (b : List ℕ) (k : ℕ) (x : Reading) (f : ℕ → ℕ → ℕ) (p r : ℕ) → ReadingAt b k x → f p r ≡ summed b k p r → bumped x.party x.region x.kwh f p r ≡ summed b (k + 1) p r
+summed_bumped b k x f p r at h =
+    ap (λ n. n + cond (eqb r x.region) (cond (eqb p x.party) x.kwh 0) 0) h
+    ∙ ap (λ y. summed b k p r + cond (eqb r x.region) (cond (eqb p y) x.kwh 0) 0) at.party
+    ∙ ap (λ y. summed b k p r + cond (eqb r y) (cond (eqb p (party_at b k)) x.kwh 0) 0) at.region
+    ∙ ap (λ y. summed b k p r + cond (eqb r (region_at b k)) (cond (eqb p (party_at b k)) y 0) 0) at.kwh
     ∙ sym (summed_more b k p r)
     ∙ ap (λ n. summed b n p r) (sym (add-one k))
+
+-- so is its kWh to all figures together
+pub kwh_more : (b : List ℕ) (k : ℕ) → sum_to (k + 1) (kwh_at b) ≡ sum_to k (kwh_at b) + kwh_at b k
+kwh_more b k = ap (λ n. sum_to n (kwh_at b)) (add-one k) ∙ sum_to_more k (kwh_at b)

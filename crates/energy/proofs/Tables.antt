@@ -24,19 +24,6 @@ bumped_all p r v f l m =
     ∙ ap (λ n. n + sum_to 5 (λ s. cond (eqb s r) v 0)) (sym (grand_is f))
     ∙ ap (λ n. grand f + n) (sum_to_single 5 r v m)
 
-pub row_put : (row : List ℕ) (r v s : ℕ) → r < length row → get_or (set row r (get_or row r 0 + v)) s 0 ≡ get_or row s 0 + cond (eqb s r) v 0
-row_put row r v s l =
-    ⊎_elim
-    (λ (e : s ≡ r).
-    ap (λ k. get_or (set row r (get_or row r 0 + v)) k 0) e
-    ∙ get_or-set_same row r (get_or row r 0 + v) 0 l
-    ∙ sym (ap (λ b. get_or row s 0 + cond b v 0) (eq-eqb s r e) ∙ ap (λ k. get_or row k 0 + v) e))
-    (λ (e : s ≢ r). get_or-set_other row r s (get_or row r 0 + v) 0 e ∙ sym (ap (λ b. get_or row s 0 + cond b v 0) (ne_eqb s r e) ∙ none (get_or row s 0)))
-    (cases_eq s r)
-  where
-    none : (n : ℕ) → n + 0 ≡ n
-    none n = omega arith
-
 nothing : (b : Bool) (n : ℕ) → n + cond b 0 0 ≡ n
 nothing true n = omega arith
 nothing false n = omega arith
@@ -75,11 +62,3 @@ zero_figures n m p r =
 
 pub grand_zero : (f : ℕ → ℕ → ℕ) → ((p r : ℕ) → f p r ≡ 0) → grand f ≡ 0
 grand_zero f h = grand_is f ∙ sum_to_zero 5 (in_region f) (λ r l. region_is f r ∙ sum_to_zero 64 (λ p. f p r) (λ p m. h p r))
-
--- a table that is filled row by row
-pub rows_more : (f : ℕ → ℕ → ℕ) (rows : List (List ℕ)) (row : List ℕ) (n : ℕ) → n < length rows → ((r : ℕ) → r < 5 → get_or row r 0 ≡ f n r) → ((p r : ℕ) → p < n → r < 5 → figure_of rows p r ≡ f p r) → (p r : ℕ) → p < n + 1 → r < 5 → figure_of (set rows n row) p r ≡ f p r
-rows_more f rows row n l new old p r m k =
-    ⊎_elim
-    (λ (e : p ≡ n). ap (λ q. get_or (get_or (set rows n row) q []) r 0) e ∙ ap (λ x. get_or x r 0) (get_or-set_same rows n row [] l) ∙ new r k ∙ ap (λ q. f q r) (sym e))
-    (λ (e : p ≢ n). ap (λ x. get_or x r 0) (get_or-set_other rows n p row [] e) ∙ old p r (omega arith) k)
-    (cases_eq p n)

@@ -1,9 +1,10 @@
 -- Metered records: 8 bytes each, of party, region, a zero byte and kWh.
-use Rattle.std.specs.Prelude.{ℕ, ◌+◌, ◌*◌, ◌/◌, ◌%◌, Bool, cond, ◌&&◌, List, length, Some, Option, ◌==◌, nat_le, slice_index}
+use Rattle.std.specs.Prelude.{◌≡◌, ℕ, ◌+◌, ◌*◌, ◌/◌, ◌%◌, Bool, cond, ◌&&◌, List, length, Some, Option, ◌==◌, nat_le, slice_index}
 use Rattle.foundation.specs.Fault.{Refused, refused_in, unless_in}
 use Rattle.foundation.specs.First.{first_to, or_else, silent}
 use Rattle.foundation.specs.Sums.{sum_to}
-use Rattle.sampling.specs.Records.{number_at}
+use Rattle.foundation.specs.Bytes.{number_at}
+use Rattle.energy.specs.declared.metered.Reading.{Reading}
 
 -- a refusal in the layer of the energies
 abbrev pub in_energies : ℕ → ℕ → Refused
@@ -24,6 +25,13 @@ zero_at b k = slice_index b (8 * k + 3)
 
 abbrev pub kwh_at : List ℕ → ℕ → ℕ
 kwh_at b k = number_at b (8 * k + 4) * 65536 + number_at b (8 * k + 6)
+
+-- a reading that holds what the bytes say at record k
+pub record ReadingAt (b : List ℕ) (k : ℕ) (r : Reading) : Type 0 where
+  pub party : r.party ≡ party_at b k
+  pub region : r.region ≡ region_at b k
+  pub rest : r.zero ≡ zero_at b k
+  pub kwh : r.kwh ≡ kwh_at b k
 
 -- the fault of a record by its fields and the sum of the kWh before it
 abbrev pub fields_fault : (place party region none before kwh : ℕ) → Option Refused

@@ -3,37 +3,21 @@ ghost use Rattle.std.specs.Prelude.{◌≡◌, IfOk};
 ghost use Rattle.foundation.specs.Fault.{refusal};
 ghost use Rattle.sampling.specs.Factors.{residual_of};
 ghost use Rattle.energy.specs.Dispatch.{dispatch_fault, dispatch_of};
-ghost use Rattle.energy.specs.Energy.{grand, total_of, within};
+ghost use Rattle.energy.specs.Energy.{grand};
 
-use crate::island::in_set;
-use crate::metered::energies_fault;
+use crate::island::{ALL_REGIONS, Island};
 use crate::source::{EnergySource, REGIONS};
 use foundation::division::portion;
-use foundation::fault::{Fault, Refusal};
+use foundation::fault::{Fault, Layer, Refusal};
 use sampling::factors::Factors;
 
-const ALL_REGIONS: u8 = 31;
-
-// A region's total, where the set has the region.
-fn chosen<E: EnergySource>(source: &E, regions: u8, region: u8) -> u32
-    ensures { result ≡ total_of (within regions (E.EnergySource.kwh source.now)) region }
+// The totals of all regions.
+fn total_of_all<E: EnergySource>(source: &E) -> u64
+    ensures { result ≡ grand (E.EnergySource.kwh source.now) }
 {
-    if in_set(regions, region) {
-        source.total(region)
-    } else {
-        0
-    }
-}
-
-// The totals of the regions of a set.
-fn total_in<E: EnergySource>(source: &E, regions: u8) -> u64
-    ensures { result ≡ grand (within regions (E.EnergySource.kwh source.now)) }
-{
-    let mut sum = 0;
-    for region in 0..REGIONS {
-        sum += u64::from(chosen(source, regions, region));
-    }
-    sum
+    (0..REGIONS)
+        .map(|region| u64::from(source.total(region)))
+        .sum()
 }
 
 // It asks the source for regional totals alone.
@@ -46,9 +30,9 @@ pub fn dispatch_figure<E: EnergySource>(
     ensures value { IfOk result (λ n. n ≡ dispatch_of (residual_of factors.now) regions (E.EnergySource.kwh source.now)) }
 {
     if regions == 0 || regions > ALL_REGIONS {
-        return Err(energies_fault(Refusal::OutOfRange, 0));
+        return Err(Layer::Energies.fault(Refusal::OutOfRange, 0));
     }
-    let all = total_in(source, ALL_REGIONS);
-    let inside = total_in(source, regions);
+    let inside = total_of_all(&Island::new(source, regions));
+    let all = total_of_all(source);
     Ok(portion(u64::from(factors.residual()), inside, all) as u32)
 }

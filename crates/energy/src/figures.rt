@@ -5,6 +5,7 @@ ghost use Rattle.foundation.specs.Sums.{listed};
 ghost use Rattle.energy.specs.Table.{figure_of, bumped};
 
 use crate::source::{EnergySource, PARTIES, REGIONS};
+use std::array;
 
 // A row for each party, with a figure for each region.
 #[derive(Clone, Copy)]
@@ -18,13 +19,10 @@ fn row_of<E: EnergySource>(source: &E, party: u16) -> [u32; 5]
     requires { party < 64 }
     ensures { (r : ℕ) → r < 5 → listed result r ≡ E.EnergySource.kwh source.now party r }
 {
-    let mut row = [0; 5];
-    for region in 0..REGIONS {
-        row[region as usize] = source.energy(party, region);
-    }
-    row
+    array::from_fn(|region| source.energy(party, region as u8))
 }
 
+// It takes a row by value, as a proof knows the length of an array, and not that of an array in an array.
 fn raised(mut row: [u32; 5], region: u8, kwh: u32) -> [u32; 5]
     requires region { region < 5 }
     requires room { listed row region + kwh < 2 ^ 32 }
@@ -46,11 +44,14 @@ impl Figures {
     pub fn copied<E: EnergySource>(source: &E) -> Figures
         ensures { (p r : ℕ) → p < 64 → r < 5 → figure_of result.rows p r ≡ E.EnergySource.kwh source.now p r }
     {
-        let mut rows = [[0; 5]; 64];
-        for party in 0..PARTIES {
-            rows[party as usize] = row_of(source, party);
+        Figures {
+            rows: array::from_fn(
+                |party| -> [u32; 5]
+                    requires { party < 64 }
+                    ensures { (r : ℕ) → r < 5 → listed result r ≡ E.EnergySource.kwh source.entry.now party r }
+                { row_of(source, party as u16) },
+            ),
         }
-        Figures { rows }
     }
 
     // Adds to one figure what the limit has room for.
@@ -80,10 +81,6 @@ impl EnergySource for Figures {
         if region >= REGIONS {
             return 0;
         }
-        let mut sum = 0;
-        for row in &self.rows {
-            sum += row[region as usize];
-        }
-        sum
+        self.rows.iter().map(|row| row[region as usize]).sum()
     }
 }

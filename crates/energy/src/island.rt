@@ -6,6 +6,9 @@ ghost use Rattle.energy.specs.Totals.{within_bounded};
 
 use crate::source::{EnergySource, REGIONS};
 
+// The set of all regions.
+pub const ALL_REGIONS: u8 = 31;
+
 #[derive(Drop)]
 pub struct Island<E> {
     below: E,

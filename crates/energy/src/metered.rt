@@ -1,15 +1,12 @@
 // Metered energies, by records of a party, a region and kWh; the records are summed once, when the source is made.
-ghost use Rattle.std.specs.Prelude.{◌≡◌, ℕ, suc, ◌+◌, ◌*◌, ◌/◌, ◌≤◌, length, IfOk, None};
+ghost use Rattle.std.specs.Prelude.{◌≡◌, ℕ, ◌+◌, ◌/◌, ◌≤◌, length, IfOk, None};
 ghost use Rattle.foundation.specs.Fault.{refusal};
-ghost use Rattle.foundation.specs.declared.fault.Layer.TheVariants.{Energies};
-ghost use Rattle.energy.specs.Metered.{party_at, region_at, zero_at, kwh_at, fields_fault, metered_fault, metered_kwh, summed};
+ghost use Rattle.energy.specs.Metered.{ReadingAt, fields_fault, metered_fault, metered_kwh, summed};
 ghost use Rattle.energy.specs.Table.{figure_of};
 
 use crate::figures::Figures;
 use crate::source::{EnergySource, PARTIES, REGIONS};
 use foundation::fault::{Fault, Layer, Refusal};
-
-const RECORD_BYTES: usize = 8;
 
 const MOST_RECORDS: usize = 4_096;
 // All figures of a source together, in kWh.
@@ -28,29 +25,18 @@ struct Reading {
     kwh: u32,
 }
 
-pub(crate) fn energies_fault(refusal: Refusal, place: usize) -> Fault
-    ensures { result ≡ record { refusal = refusal; layer = Energies; place = place } }
-{
-    Fault {
-        refusal,
-        layer: Layer::Energies,
-        place,
-    }
-}
+impl From<[u8; 8]> for Reading {
+    ghost from_gives = { λ bytes reading. ReadingAt bytes 0 reading };
 
-fn read_at(bytes: &[u8], k: usize) -> Reading
-    requires { 8 * suc k ≤ length bytes.now }
-    ensures party { result.party ≡ party_at bytes.now k }
-    ensures region { result.region ≡ region_at bytes.now k }
-    ensures zero { result.zero ≡ zero_at bytes.now k }
-    ensures kwh { result.kwh ≡ kwh_at bytes.now k }
-{
-    let at = RECORD_BYTES * k;
-    Reading {
-        party: u16::from_be_bytes([bytes[at], bytes[at + 1]]),
-        region: bytes[at + 2],
-        zero: bytes[at + 3],
-        kwh: u32::from_be_bytes([bytes[at + 4], bytes[at + 5], bytes[at + 6], bytes[at + 7]]),
+    #[tactic(auto, unfolding(foundation::specs::Bytes::number_at))]
+    fn from(bytes: [u8; 8]) -> Reading {
+        let [p1, p0, region, zero, k3, k2, k1, k0] = bytes;
+        Reading {
+            party: u16::from_be_bytes([p1, p0]),
+            region,
+            zero,
+            kwh: u32::from_be_bytes([k3, k2, k1, k0]),
+        }
     }
 }
 
@@ -61,10 +47,10 @@ fn check_reading(reading: Reading, before: u32, place: usize) -> Result<u32, Fau
     ensures value { IfOk result (λ sum. (sum ≡ before + reading.kwh) × (sum ≤ 40000000)) }
 {
     if reading.party >= PARTIES || reading.region >= REGIONS || reading.zero != 0 {
-        return Err(energies_fault(Refusal::OutOfRange, place));
+        return Err(Layer::Energies.fault(Refusal::OutOfRange, place));
     }
     if reading.kwh > LIMIT - before {
-        return Err(energies_fault(Refusal::TooMuchEnergy, place));
+        return Err(Layer::Energies.fault(Refusal::TooMuchEnergy, place));
     }
     Ok(before + reading.kwh)
 }
@@ -73,9 +59,10 @@ fn summed_up(bytes: &[u8]) -> Figures
     requires { metered_fault bytes.now ≡ None }
     ensures { (p r : ℕ) → figure_of result.rows p r ≡ summed bytes.now (length bytes.now / 8) p r }
 {
+    let (records, _) = bytes.as_chunks::<8>();
     let mut figures = Figures::none();
-    for k in 0..bytes.len() / RECORD_BYTES {
-        let reading = read_at(bytes, k);
+    for record in records {
+        let reading = Reading::from(*record);
         figures.add(reading.party, reading.region, reading.kwh);
     }
     figures
@@ -86,13 +73,13 @@ impl Metered {
     pub fn check(bytes: &[u8]) -> Result<(), Fault>
         ensures { refusal result ≡ metered_fault bytes.now }
     {
-        let records = bytes.len() / RECORD_BYTES;
-        if bytes.len() % RECORD_BYTES != 0 || records > MOST_RECORDS {
-            return Err(energies_fault(Refusal::WrongLength, 0));
+        let (records, rest) = bytes.as_chunks::<8>();
+        if !rest.is_empty() || records.len() > MOST_RECORDS {
+            return Err(Layer::Energies.fault(Refusal::WrongLength, 0));
         }
         let mut sum = 0;
-        for k in 0..records {
-            sum = check_reading(read_at(bytes, k), sum, k)?;
+        for (k, record) in records.iter().enumerate() {
+            sum = check_reading(Reading::from(*record), sum, k)?;
         }
         Ok(())
     }

@@ -5,10 +5,10 @@ ghost use Rattle.foundation.specs.Sums.{listed, sum_to};
 ghost use Rattle.energy.specs.Profile.{profile_fault, profile_kwh};
 ghost use Rattle.energy.specs.Divisions.{profile_bounded};
 
-use crate::metered::{LIMIT, energies_fault};
+use crate::metered::LIMIT;
 use crate::source::{EnergySource, PARTIES, REGIONS};
-use foundation::division::divide;
-use foundation::fault::{Fault, Refusal};
+use foundation::division::shares;
+use foundation::fault::{Fault, Layer, Refusal};
 
 #[derive(Clone, Copy)]
 pub struct Profile {
@@ -20,22 +20,7 @@ pub struct Profile {
 fn sum_of(totals: &[u32; 5]) -> u64
     ensures { result ≡ sum_to 5 (listed totals.now) }
 {
-    let mut sum = 0;
-    for total in totals {
-        sum += u64::from(*total);
-    }
-    sum
-}
-
-fn widened(weights: &[u16; 64]) -> [u64; 64]
-    ensures value { (p : ℕ) → p < 64 → listed result p ≡ listed weights.now p }
-    ensures bound { (p : ℕ) → p < 64 → listed result p ≤ 65535 }
-{
-    let mut wide = [0; 64];
-    for p in 0..64 {
-        wide[p] = u64::from(weights[p]);
-    }
-    wide
+    totals.iter().map(|total| u64::from(*total)).sum()
 }
 
 impl Profile {
@@ -45,7 +30,7 @@ impl Profile {
         ensures value { IfOk result (λ s. (s.totals ≡ totals) × (s.weights ≡ weights)) }
     {
         if sum_of(&totals) > u64::from(LIMIT) {
-            return Err(energies_fault(Refusal::TooMuchEnergy, 0));
+            return Err(Layer::Energies.fault(Refusal::TooMuchEnergy, 0));
         }
         Ok(Profile { totals, weights })
     }
@@ -55,24 +40,16 @@ impl Profile {
         requires { region < 5 }
         ensures { (p : ℕ) → p < 64 → listed result p ≡ profile_kwh self.now.totals self.now.weights p region }
     {
-        let mut parts = [0; 64];
-        divide(
+        shares(
             u64::from(self.totals[region as usize]),
-            &widened(&self.weights),
-            &mut parts,
-        );
-        parts
+            &self.weights.map(u64::from),
+        )
     }
 
     fn is_weightless(&self) -> bool
         ensures { result ≡ (sum_to 64 (listed self.now.weights) == 0) }
     {
-        for weight in &self.weights {
-            if *weight != 0 {
-                return false;
-            }
-        }
-        true
+        self.weights.iter().all(|weight| *weight == 0)
     }
 }
 

@@ -20,3 +20,18 @@ pub trait EnergySource {
 
     ghost bounded: { (s : Self) → grand (kwh s) ≤ 40000000 };
 }
+
+// A source that is lent is a source too.
+impl<E: EnergySource> EnergySource for &E {
+    ghost kwh = { λ s. E.EnergySource.kwh s.now };
+
+    ghost bounded = { λ s. E.EnergySource.bounded s.now };
+
+    fn energy(&self, party: u16, region: u8) -> u32 {
+        (**self).energy(party, region)
+    }
+
+    fn total(&self, region: u8) -> u32 {
+        (**self).total(region)
+    }
+}

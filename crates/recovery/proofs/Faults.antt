@@ -42,6 +42,13 @@ lines_lack D b left h = ap (λ t. unless_in 4 t 18 0) (below_least (lines_of D b
 pub split_passes : (D : ℕ) (b : Basis) → 1 ≤ b.part → b.part ≤ 200000000000 → 1 ≤ D → D ≤ 31 → 0 < cmpf D b + crmpf D b → split_fault D b ≡ None
 split_passes D b p q r s t = let x = part_passes b.part p q in let y = regions_pass D r s in let z = somebody_pays D b t in rw (x, y, z)
 
+pub nobody_pays : (D : ℕ) (b : Basis) → 1 ≤ b.part → b.part ≤ 200000000000 → 1 ≤ D → D ≤ 31 → cmpf D b + crmpf D b ≡ 0 → split_fault D b ≡ Some (refused_in 3 17 0)
+nobody_pays D b p q r s e =
+    let x = part_passes b.part p q in
+    let y = regions_pass D r s in
+    let z = below_least 1 (cmpf D b + crmpf D b) (omega arith) in
+    rw (x, y, z)
+
 -- the first three faults are one refusal, so the serial may be judged first
 serial_first : (s p r : Bool) (rest : Option Refused) → s ≡ false → or_else (unless_in 3 p 2 0) (or_else (unless_in 3 r 2 0) (or_else (unless_in 3 s 2 0) rest)) ≡ Some (refused_in 3 2 0)
 serial_first s true true rest e = rw e

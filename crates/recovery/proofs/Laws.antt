@@ -236,7 +236,7 @@ share_near D b p l h =
 pub held_eq : (D : ℕ) (f g : ℕ → ℕ → ℕ) (p : ℕ) → ((r : ℕ) → r < 5 → f p r ≡ g p r) → held_in D f p ≡ held_in D g p
 held_eq D f g p h = held_is D f p ∙ sum_to_eq 5 (λ r. within D f p r) (λ r. within D g p r) (λ r l. ap (λ n. cond (member D r) n 0) (h r l)) ∙ sym (held_is D g p)
 
-energy_eq : (D : ℕ) (b c : Basis) → Alike b c → (p : ℕ) → p < 64 → energy_in D b p ≡ energy_in D c p
+pub energy_eq : (D : ℕ) (b c : Basis) → Alike b c → (p : ℕ) → p < 64 → energy_in D b p ≡ energy_in D c p
 energy_eq D b c a p l = held_eq D b.energy c.energy p (λ r m. a.energy p r l m)
 
 causer_eq : (D : ℕ) (b c : Basis) → Alike b c → (p : ℕ) → p < 64 → causer D b p ≡ causer D c p
@@ -246,7 +246,7 @@ causer_eq D b c a p l =
     let w = a.factor p l in
     causer_is D b p ∙ rw (e, f, w) (sym (causer_is D c p))
 
-customer_eq : (D : ℕ) (b c : Basis) → Alike b c → (p : ℕ) → p < 64 → customer D b p ≡ customer D c p
+pub customer_eq : (D : ℕ) (b c : Basis) → Alike b c → (p : ℕ) → p < 64 → customer D b p ≡ customer D c p
 customer_eq D b c a p l =
     let e = energy_eq D b c a p l in
     let f = a.factored p l in
@@ -266,7 +266,7 @@ crmpf_alike D b c a =
     ∙ ap (λ n. c.residual * atce D c / n) (atce_alike everywhere b c a)
     ∙ sym (crmpf_is D c)
 
-weight_eq : (D : ℕ) (b c : Basis) → Alike b c → (k : ℕ) → k < 65 → weight D b k ≡ weight D c k
+pub weight_eq : (D : ℕ) (b c : Basis) → Alike b c → (k : ℕ) → k < 65 → weight D b k ≡ weight D c k
 weight_eq D b c a k l =
     ⊎_elim
     (λ (m : k < 64). weight_party D b k m ∙ causer_eq D b c a k m ∙ sym (weight_party D c k m))

@@ -1,6 +1,9 @@
 -- How many lines some shares take.
-use Rattle.std.proofs.Common.{◌≡◌, ℕ, suc, ◌+◌, ◌<◌, ◌≤◌, cond, eqb, ap, ◌∙◌, add-one, arith}
+use Rattle.std.proofs.Common.{◌≡◌, ℕ, suc, ◌+◌, ◌<◌, ◌≤◌, cond, eqb, ltb, List, length, ap, ◌∙◌, add-one, arith}
+use Rattle.std.specs.List.{count_by}
 use Rattle.std.proofs.lemmas.Bool.Decides.{nat_tests}
+use Rattle.foundation.specs.Sums.{listed}
+use Rattle.foundation.proofs.Lists.{sum_by_places}
 use Rattle.foundation.proofs.Sums.{sum_to_none, sum_to_more, sum_to_mono, sum_to_eq, sum_to_bound}
 use Rattle.recovery.specs.Shares.{Basis, Alike, lines_for, lines_of, share_paid}
 use Rattle.recovery.proofs.Laws.{share_alike}
@@ -46,3 +49,11 @@ lines_few s n = omega (arith, sum_to_bound n 1 _ (λ p l. mark_le (s p)))
   where
     mark_le : (v : ℕ) → cond (eqb v 0) 0 1 ≤ 1
     mark_le v = grind (arith, nat_tests)
+
+-- the shares of a list that are above 0
+pub lines_counted : (xs : List ℕ) → count_by (λ s. ltb 0 s) xs ≡ lines_for (listed xs) (length xs)
+unfolding lines_for
+lines_counted xs = sum_by_places (λ s. cond (ltb 0 s) 1 0) xs 0 ∙ sum_to_eq (length xs) _ _ (λ k l. mark (listed xs k))
+  where
+    mark : (v : ℕ) → ◌≡◌ {A = ℕ} (cond (ltb 0 v) 1 0) (cond (eqb v 0) 0 1)
+    mark v = grind (arith, nat_tests)

@@ -19,27 +19,23 @@ fn debit(share: u64) -> i64
     -(share as i64)
 }
 
-// Posts each share that is not 0, in party order, and counts the lines. The ledger has room for all of them, so no post fails.
-fn post_shares<L: Ledger>(shares: &[u64; 64], serial: u16, ledger: &mut L) -> Result<u32, Fault>
+// Posts each share that is not 0, in party order. The ledger has room for all of them, so no post fails.
+fn post_shares<L: Ledger>(shares: &[u64; 64], serial: u16, ledger: &mut L) -> Result<(), Fault>
     requires first { 1 ≤ serial }
     requires last { serial ≤ 32 }
     requires sizes { (p : ℕ) → p < 64 → listed shares.now p ≤ 200000000000 }
     requires room { lines_for (listed shares.now) 64 ≤ L.Ledger.room ledger.old }
     ensures done { is_err result ≡ false }
-    ensures value { IfOk result (λ n. n ≡ lines_for (listed shares.now) 64) }
     ensures amounts { (q t : ℕ) → L.Ledger.owed ledger.new q t ≡ lowered (listed shares.now) 64 serial (L.Ledger.owed ledger.old) q t }
     ensures few { L.Ledger.room ledger.old ≤ L.Ledger.room ledger.new + lines_for (listed shares.now) 64 }
     ensures falls { L.Ledger.room ledger.new ≤ L.Ledger.room ledger.old }
 {
-    let mut lines = 0;
-    for party in 0..64 {
-        let share = shares[party as usize];
-        if share > 0 {
-            ledger.post(party, serial, debit(share))?;
-            lines += 1;
+    for (party, share) in shares.iter().enumerate() {
+        if *share > 0 {
+            ledger.post(party as u16, serial, debit(*share))?;
         }
     }
-    Ok(lines)
+    Ok(())
 }
 
 // Recovers a part over a set of regions under a serial, and answers CMPF, CRMPF and how many lines it posted. A part, regions or
@@ -63,9 +59,10 @@ pub fn recover<E: EnergySource, L: Ledger>(
         return Err(Layer::Book.fault(Refusal::OutOfRange, 0));
     }
     let split = Split::of(part, regions, factors, source)?;
-    if split.lines() > ledger.lines_left() {
+    let lines = split.lines();
+    if lines > ledger.lines_left() {
         return Err(Layer::Ledger.fault(Refusal::TooFewLines, 0));
     }
-    let lines = post_shares(&split.shares, serial, ledger)?;
+    post_shares(&split.shares, serial, ledger)?;
     Ok((split.cmpf(), split.crmpf(), lines))
 }

@@ -7,11 +7,14 @@ ghost use Rattle.recovery.specs.Recovery.{split_fault};
 ghost use Rattle.recovery.specs.Shares.{basis_of, lines_for};
 ghost use Rattle.recovery.specs.Split.{Parted, energy_of, share_in};
 
-use crate::weights::{ALL_REGIONS, RESIDUAL, Weights};
-use energy::source::{EnergySource, PARTIES};
-use foundation::division::divide;
+use crate::weights::{RESIDUAL, Weights};
+use energy::figures::Figures;
+use energy::island::ALL_REGIONS;
+use energy::source::EnergySource;
+use foundation::division::shares;
 use foundation::fault::{Fault, Layer, Refusal};
 use sampling::factors::Factors;
+use std::array;
 
 // The largest part that one recovery takes, in ticks.
 pub const LARGEST_PART: u64 = 200_000_000_000;
@@ -33,11 +36,7 @@ fn joined(of_causers: &[u64; 65], of_customers: &[u64; 64]) -> [u64; 64]
     requires { (p : ℕ) → p < 64 → listed of_causers.now p + listed of_customers.now p < 2 ^ 64 }
     ensures { (p : ℕ) → p < 64 → listed result p ≡ listed of_causers.now p + listed of_customers.now p }
 {
-    let mut shares = [0; 64];
-    for p in 0..64 {
-        shares[p] = of_causers[p] + of_customers[p];
-    }
-    shares
+    array::from_fn(|party| of_causers[party] + of_customers[party])
 }
 
 impl Split {
@@ -50,11 +49,9 @@ impl Split {
         ensures borne { result.residual_part ≡ share part 65 (listed weights.causers) 64 }
         ensures kept { (result.energies ≡ weights.energies) × (result.cmpf ≡ weights.cmpf) × (result.crmpf ≡ weights.crmpf) × (result.residual_energy ≡ weights.residual_energy) }
     {
-        let mut of_causers = [0; 65];
-        divide(part, &weights.causers, &mut of_causers);
+        let of_causers = shares(part, &weights.causers);
         let residual_part = of_causers[RESIDUAL];
-        let mut of_customers = [0; 64];
-        divide(residual_part, &weights.customers, &mut of_customers);
+        let of_customers = shares(residual_part, &weights.customers);
         Split {
             shares: joined(&of_causers, &of_customers),
             energies: weights.energies,
@@ -81,7 +78,9 @@ impl Split {
         if regions < 1 || regions > ALL_REGIONS {
             return Err(Layer::Book.fault(Refusal::OutOfRange, 0));
         }
-        let weights = Weights::of(regions, factors, source);
+        // Asks the source for each figure once.
+        let figures = Figures::copied(source);
+        let weights = Weights::of(regions, factors, figures);
         if weights.cmpf == 0 && weights.crmpf == 0 {
             return Err(Layer::Book.fault(Refusal::NobodyToPay, 0));
         }
@@ -92,20 +91,14 @@ impl Split {
     pub fn share(&self, party: u16) -> u64
         ensures { result ≡ share_in self.now party }
     {
-        if party >= PARTIES {
-            return 0;
-        }
-        self.shares[party as usize]
+        self.shares.get(usize::from(party)).copied().unwrap_or(0)
     }
 
     // A party's energy in the regions, 0 out of range.
     pub fn energy(&self, party: u16) -> u64
         ensures { result ≡ energy_of self.now party }
     {
-        if party >= PARTIES {
-            return 0;
-        }
-        self.energies[party as usize]
+        self.energies.get(usize::from(party)).copied().unwrap_or(0)
     }
 
     // The factors of the causers.
@@ -140,12 +133,6 @@ impl Split {
     pub fn lines(&self) -> u32
         ensures { result ≡ lines_for (listed self.now.shares) 64 }
     {
-        let mut lines = 0;
-        for share in &self.shares {
-            if *share > 0 {
-                lines += 1;
-            }
-        }
-        lines
+        self.shares.iter().filter(|share| **share > 0).count() as u32
     }
 }

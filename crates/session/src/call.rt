@@ -1,4 +1,7 @@
 // A call on a book, and its answer.
+ghost use Rattle.std.specs.Prelude.{◌≡◌, min, length, take};
+ghost use Rattle.session.specs.Terms.{first_terms};
+
 use book::claim::OpenClaim;
 use book::term::Term;
 use foundation::fault::Fault;
@@ -6,13 +9,38 @@ use foundation::fault::Fault;
 // The most terms of a claim that are kept: one more than are accepted, so that too many are refused as such.
 pub const TERMS: usize = 11;
 
+const NO_TERM: Term = Term {
+    region: 0,
+    service: 0,
+    amount: 0,
+};
+
 // The first `count` of the items.
 #[derive(Clone, Copy)]
 pub struct Terms {
-    pub items: [Term; 11],
+    pub items: [Term; TERMS],
     pub count: usize,
 }
 
+impl Terms {
+    // As many of the terms as a call holds.
+    pub fn first_of(terms: &[Term]) -> Terms
+        ensures items { result.items ≡ first_terms terms.now }
+        ensures count { result.count ≡ min (length terms.now) 11 }
+    {
+        let count = terms.len().min(TERMS);
+        let mut items = [NO_TERM; TERMS];
+        items[..count].copy_from_slice(&terms[..count]);
+        Terms { items, count }
+    }
+
+    // The terms that count.
+    pub fn as_slice(&self) -> &[Term]
+        ensures { result.now ≡ take self.now.count self.now.items }
+    {
+        &self.items[..self.count.min(TERMS)]
+    }
+}
 // A recovery or a return names the number whose claim is held.
 #[derive(Clone, Copy)]
 pub enum Call {

@@ -3,3 +3,5 @@
 
 pub mod call;
 pub mod run;
+#[cfg(test)]
+mod tests;

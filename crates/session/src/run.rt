@@ -7,7 +7,7 @@ ghost use Rattle.book.specs.Settled.{Settled};
 ghost use Rattle.book.specs.States.{state_in};
 ghost use Rattle.session.specs.Runs.{event_of, run_through};
 
-use crate::call::{Answer, Call, TERMS, Terms};
+use crate::call::{Answer, Call, Terms};
 use book::book::Book;
 use book::claim::OpenClaim;
 use energy::source::EnergySource;
@@ -42,14 +42,7 @@ fn claim(
 ) -> Answer
     ensures told { (h : History) (owed : ℕ → ℕ → ℤ) (f : AnOption AFactors) (e : ℕ → ℕ → ℕ) → Kept h (state_in book.old.states) book.old.made owed → Kept (event_of (Call.Claim number interval marginal_value part terms) result f e ∷ h) (state_in book.new.states) book.new.made owed }
 {
-    let count = terms.count.min(TERMS);
-    match book.claim(
-        number,
-        interval,
-        marginal_value,
-        &terms.items[0..count],
-        part,
-    ) {
+    match book.claim(number, interval, marginal_value, terms.as_slice(), part) {
         Ok(claim) => Answer::Claimed(claim.leave_open()),
         Err(fault) => Answer::Refused(fault),
     }
@@ -147,7 +140,7 @@ pub fn run<E: EnergySource, L: Ledger>(
     ensures told { (h : History) → Kept h (state_in book.old.states) book.old.made (L.Ledger.owed ledger.old) → Kept (run_through calls.now answers.new factors.now (E.EnergySource.kwh source.now) h) (state_in book.new.states) book.new.made (L.Ledger.owed ledger.new) }
     ensures law { (h : History) → Kept h (state_in book.old.states) book.old.made (L.Ledger.owed ledger.old) → Settled (run_through calls.now answers.new factors.now (E.EnergySource.kwh source.now) h) (λ n. held_in n (state_in book.new.states n)) (L.Ledger.owed ledger.new) }
 {
-    for k in 0..calls.len() {
-        answers[k] = call(book, calls[k], factors, source, ledger);
+    for (k, asked) in calls.iter().enumerate() {
+        answers[k] = call(book, *asked, factors, source, ledger);
     }
 }

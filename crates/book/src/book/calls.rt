@@ -66,28 +66,14 @@ impl Book {
     pub fn open_claim(&self, number: u8) -> Option<OpenClaim>
         ensures { result ≡ open_in number (state_in self.now.states number) }
     {
-        let state = self.state(number);
-        match state {
-            State::Claimed(declaration, pending) => Some(OpenClaim {
-                number,
-                serial: declaration.serial,
-                interval: pending.interval,
-                part: pending.part,
-            }),
-            _ => None,
-        }
+        self.state(number).open_claim(number)
     }
 
     // The declaration for which a number stands.
     pub fn declaration(&self, number: u8) -> Option<Declaration>
         ensures { result ≡ declaration_in (state_in self.now.states number) }
     {
-        let state = self.state(number);
-        match state {
-            State::Free => None,
-            State::Declared(declaration) => Some(declaration),
-            State::Claimed(declaration, _) => Some(declaration),
-        }
+        self.state(number).declaration()
     }
 
     // How many declarations were made; each has the next serial.

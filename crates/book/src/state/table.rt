@@ -1,7 +1,7 @@
 // The table of a number's states: what each event makes of each state, or why it is refused.
 ghost use Rattle.std.specs.Prelude.{◌≡◌, IfOk, Err, nat_le};
 ghost use Rattle.foundation.specs.Fault.{refusal as fault_of};
-ghost use Rattle.book.specs.Calls.{declared_in, is_open, not_open, recovered_state, returned_state};
+ghost use Rattle.book.specs.Calls.{declaration_in, declared_in, is_open, not_open, open_in, recovered_state, returned_state};
 ghost use Rattle.book.specs.Kept.{serial_in};
 ghost use Rattle.book.specs.States.{after};
 ghost use Rattle.book.specs.Table.{in_book, is_fitting, proposal_fault, table_fault, table_state};
@@ -10,11 +10,8 @@ use super::{Declaration, Kind, Pending, State};
 use crate::claim::OpenClaim;
 use foundation::fault::{Fault, Layer, Refusal};
 use foundation::interval::WeekInterval;
-
-// Declarations made in a week, at most.
-const MOST_DECLARATIONS: u16 = 32;
-// In ticks.
-const LARGEST_PAYMENT: u64 = 200_000_000_000;
+use ledger::posting::SERIALS;
+use recovery::split::LARGEST_PART;
 
 // A claim before it is judged, with what its terms come to.
 #[derive(Clone, Copy)]
@@ -47,7 +44,7 @@ fn declare(kind: Kind, regions: u8, made: u16) -> Result<State, Fault>
     ensures answer { fault_of result ≡ table_fault State.Free (Event.Declare kind regions made) }
     ensures value { IfOk result (λ s. s ≡ table_state State.Free (Event.Declare kind regions made)) }
 {
-    if made >= MOST_DECLARATIONS {
+    if made >= SERIALS {
         return refuse(Refusal::TooManyDeclarations);
     }
     Ok(State::Declared(Declaration {
@@ -62,10 +59,7 @@ fn declare(kind: Kind, regions: u8, made: u16) -> Result<State, Fault>
 fn is_next(interval: WeekInterval, last: Option<WeekInterval>) -> bool
     ensures { result ≡ nat_le (after last) interval.number }
 {
-    match last {
-        Some(last) => interval.number() > last.number(),
-        None => true,
-    }
+    last.is_none_or(|last| interval > last)
 }
 
 // A regulation requirement has only regulation terms and is recovered whole; a delayed one up to its payment.
@@ -92,7 +86,7 @@ fn claim(declaration: Declaration, proposal: Proposal) -> Result<State, Fault>
     if !is_fitting(declaration.kind, proposal) {
         return refuse(Refusal::WrongPart);
     }
-    if proposal.payment > LARGEST_PAYMENT {
+    if proposal.payment > LARGEST_PART {
         return refuse(Refusal::PaymentTooLarge);
     }
     if proposal.part < 1 {
@@ -109,14 +103,7 @@ fn claim(declaration: Declaration, proposal: Proposal) -> Result<State, Fault>
 fn is_open(state: State, claim: OpenClaim) -> bool
     ensures { result ≡ is_open state claim }
 {
-    match state {
-        State::Claimed(declaration, pending) => {
-            declaration.serial == claim.serial
-                && pending.interval.number() == claim.interval.number()
-                && pending.part == claim.part
-        }
-        _ => false,
-    }
+    state.open_claim(claim.number) == Some(claim)
 }
 
 // A recovery raises the last interval recovered.
@@ -154,25 +141,44 @@ fn closed(state: State, claim: OpenClaim, next: State) -> Result<State, Fault>
 }
 
 impl State {
-    // The serial of the declaration for which the number stands, 0 for none.
-    pub(crate) fn serial(self) -> u16
-        ensures { result ≡ serial_in self }
+    // The declaration for which the number stands.
+    pub(crate) fn declaration(self) -> Option<Declaration>
+        ensures { result ≡ declaration_in self }
     {
         match self {
-            State::Free => 0,
-            State::Declared(declaration) => declaration.serial,
-            State::Claimed(declaration, _) => declaration.serial,
+            State::Free => None,
+            State::Declared(declaration) | State::Claimed(declaration, _) => Some(declaration),
         }
     }
 
-    // The regions of that declaration.
+    // Its serial, 0 for none.
+    pub(crate) fn serial(self) -> u16
+        ensures { result ≡ serial_in self }
+    {
+        self.declaration()
+            .map_or(0, |declaration| declaration.serial)
+    }
+
+    // Its regions, 0 for none.
     pub(crate) fn regions(self) -> u8
         ensures { result ≡ declared_in self }
     {
+        self.declaration()
+            .map_or(0, |declaration| declaration.regions)
+    }
+
+    // The claim that is held open, of the number in this state.
+    pub(crate) fn open_claim(self, number: u8) -> Option<OpenClaim>
+        ensures { result ≡ open_in number self }
+    {
         match self {
-            State::Free => 0,
-            State::Declared(declaration) => declaration.regions,
-            State::Claimed(declaration, _) => declaration.regions,
+            State::Claimed(declaration, pending) => Some(OpenClaim {
+                number,
+                serial: declaration.serial,
+                interval: pending.interval,
+                part: pending.part,
+            }),
+            _ => None,
         }
     }
 }

@@ -1,23 +1,20 @@
-use Rattle.std.proofs.Common.{◌≡◌, ◌<◌, length, sym, add-one, arith, rules}
-use Rattle.foundation.proofs.Sums.{sum_to_more, sum_to_none}
+use Rattle.std.proofs.Common.{◌≡◌, ℕ, ◌<◌, ◌≤◌, length, ◌∙◌, arith, rules}
+use Rattle.std.specs.List.{sum_by}
+use Rattle.foundation.specs.Sums.{sum_to}
+use Rattle.foundation.proofs.Lists.{sum_by_places}
+use Rattle.foundation.proofs.Sums.{sum_to_bound}
 use Rattle.book.specs.Calls.{amount_at}
+use Rattle.book.proofs.Terms.{no_term}
 use Rattle.book.proofs.term.enabled.Goals as goal
 
-pub loop-term-init : goal.loop-term-init
-loop-term-init c = (sym (sum_to_none (amount_at c.args.terms.now)), omega arith)
+pub returns-clause-value : goal.returns-clause-value
+returns-clause-value c =
+    let summed : c.sum.result ≡ sum_by (λ t. t.amount) c.args.terms.now = search rules in
+    summed ∙ sum_by_places (λ t. t.amount) c.args.terms.now no_term
 
-pub overflow_add-sum : goal.overflow_add-sum
-overflow_add-sum c =
-    let small : amount_at c.args.terms.now c.loop-term.term-index < 65536 = search rules in
-    omega (arith, c.requires, c.loop-term.invariant.1, c.from-sum.ensures)
-
-pub loop-term-preserved : goal.loop-term-preserved
-loop-term-preserved c =
-    let small : amount_at c.args.terms.now c.loop-term.term-index < 65536 = search rules in
-    let more = sum_to_more c.loop-term.term-index (amount_at c.args.terms.now) in
-    (rw add-one (omega (arith, c.loop-term.invariant.0, c.from-sum.ensures, more)), omega (arith, c.loop-term.invariant.1, c.from-sum.ensures))
-
-pub returns : goal.returns
-returns c =
-    let all : c.loop-term.term-index ≡ length c.args.terms.now = omega arith in
-    record { value = rw (← all) c.loop-term.invariant.0; small = omega (arith, c.requires, c.loop-term.invariant.1) }
+pub returns-clause-small : goal.returns-clause-small
+returns-clause-small c =
+    let ts = c.args.terms.now in
+    let summed : c.sum.result ≡ sum_by (λ t. t.amount) ts = search rules in
+    let each : (k : ℕ) → k < length ts → amount_at ts k ≤ 65535 = λ k l. search rules in
+    omega (arith, summed, sum_by_places (λ t. t.amount) ts no_term, sum_to_bound (length ts) 65535 (amount_at ts) each, c.requires)

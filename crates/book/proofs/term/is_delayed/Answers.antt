@@ -1,16 +1,24 @@
-use Rattle.std.proofs.Common.{◌≡◌, false, not, eqb, sym, ap, arith, below_more}
-use Rattle.std.proofs.lemmas.Bool.Decides.{nat_tests}
+use Rattle.std.proofs.Common.{◌≡◌, ℕ, ◌<◌, Bool, true, false, not, eqb, List, length, sym, ap, arith, rules, tests}
+use Rattle.std.specs.Bool.{MatchBool}
+use Rattle.std.specs.List.{AllWithin, HoldsAt}
+use Rattle.std.proofs.lemmas.Iterator.{YieldsList-from_slice, cases_from_any}
 use Rattle.foundation.proofs.First.{all_to_all, all_to_bad}
-use Rattle.book.specs.Calls.{service_at}
+use Rattle.book.specs.declared.term.Term.{Term}
+use Rattle.book.specs.Checks.{is_delayed}
+use Rattle.book.proofs.Terms.{no_term}
 use Rattle.book.proofs.term.is_delayed.Goals as goal
 
-pub returns-then-term-ne-REGULATION : goal.returns-then-term-ne-REGULATION
-returns-then-term-ne-REGULATION c =
-    let bad : eqb (service_at c.args.terms.now c.loop-term.term-index) 1 ≡ false = grind (arith, nat_tests) in
-    sym (ap not (all_to_bad _ _ c.loop-term.term-index (omega arith) bad))
+abbrev Other : Term → Type 0
+Other t = eqb t.service 1 ≡ false
 
-pub loop-term-preserved : goal.loop-term-preserved
-loop-term-preserved c = below_more _ _ c.loop-term.invariant (grind (arith, nat_tests))
+abbrev Regular : Term → Type 0
+Regular t = eqb t.service 1 ≡ true
+
+by_terms : (ts : List Term) (r : Bool) → MatchBool r ((k : ℕ) × (k < length ts) × HoldsAt Other ts k) (AllWithin Regular ts 0 (length ts)) → r ≡ is_delayed ts
+by_terms ts true h = sym (ap not (all_to_bad _ _ h.0 h.1 (h.2 no_term)))
+by_terms ts false h = sym (ap not (all_to_all _ _ (λ k l. h k no_term (omega arith) l)))
 
 pub returns : goal.returns
-returns c = sym (ap not (all_to_all _ _ (λ k h. c.loop-term.invariant k (omega arith))))
+returns c =
+    let ts = c.args.terms.now in
+    by_terms ts c.any.result (cases_from_any c.any.new.self _ c.any.result Other Regular c.any.ensures.ran (YieldsList-from_slice ts (cc)) (λ x q h. search (rules, tests)) (λ x q h. search (rules, tests)))

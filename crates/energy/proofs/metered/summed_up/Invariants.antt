@@ -5,5 +5,5 @@ use Rattle.energy.specs.Metered.{kwh_at, summed}
 use Rattle.energy.specs.Table.{figure_of}
 use Rattle.energy.proofs.metered.summed_up.Given as goal
 
-abbrev pub invariant-loop-k : goal.invariant-loop-k
-invariant-loop-k l = ((p r : ℕ) → figure_of l.figures.rows p r ≡ summed l.bytes l.k p r) × (grand (figure_of l.figures.rows) ≡ sum_to l.k (kwh_at l.bytes))
+abbrev pub invariant-loop-record : goal.invariant-loop-record
+invariant-loop-record l = record { each : (p r : ℕ) → figure_of l.figures.rows p r ≡ summed l.bytes l.record-index p r; all : grand (figure_of l.figures.rows) ≡ sum_to l.record-index (kwh_at l.bytes) }

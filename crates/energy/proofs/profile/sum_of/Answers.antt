@@ -1,20 +1,22 @@
-use Rattle.std.proofs.Common.{◌≡◌, length, sym, ap, ◌∙◌, add-one, arith, w32, Fits, rules}
+use Rattle.std.proofs.Common.{◌≡◌, ◌^◌, length, ℕ, ap, ◌∙◌, arith, w32, Fits, rules}
+use Rattle.std.proofs.lemmas.Iterator.{YieldsList-from_slice, YieldsList-from_map}
+use Rattle.std.proofs.lemmas.Iterator.Consumers.{YieldsList-at, fits_by_from_yields_list, sum_by_from_yields_List}
 use Rattle.foundation.specs.Sums.{listed, sum_to}
-use Rattle.foundation.proofs.Sums.{sum_to_none, sum_to_more}
+use Rattle.foundation.proofs.Sums.{sum_to_bound}
+use Rattle.foundation.proofs.Lists.{sum_places}
 use Rattle.energy.proofs.profile.sum_of.Goals as goal
 
-pub loop-total-init : goal.loop-total-init
-loop-total-init c = (sym (sum_to_none _), omega arith)
-
-pub loop-total-preserved : goal.loop-total-preserved
-loop-total-preserved c =
-    let w = listed c.args.totals.now in
-    let small : Fits w32 (w c.loop-total.total-index) = search rules in
-    let more = ap (λ n. sum_to n w) (add-one c.loop-total.total-index) ∙ sum_to_more c.loop-total.total-index w in
-    (omega (arith, more, c.from-sum.ensures, c.loop-total.invariant.0), omega (arith, small.fits, c.from-sum.ensures, c.loop-total.invariant.1))
+pub sum-requires-clause-fits : goal.sum-requires-clause-fits
+sum-requires-clause-fits c =
+    let xs = c.args.totals.now in
+    let long : length xs ≡ 5 = search rules in
+    let small : (k : ℕ) → Fits w32 (listed xs k) = λ k. search rules in
+    fits_by_from_yields_list (λ x. x) xs c.map.result (2 ^ 64) (YieldsList-from_map _ (λ x. x) (YieldsList-at c.map.ensures.source (YieldsList-from_slice xs (cc))) c.map.ensures.closure (λ x r q k. search rules)) (omega (arith, sum_places xs, ap (λ n. sum_to n (listed xs)) long, sum_to_bound 5 4294967295 (listed xs) (λ k l. omega (arith, (small k).fits))))
 
 pub returns : goal.returns
 returns c =
-    let long : length c.args.totals.now ≡ 5 = search rules in
-    let all : c.loop-total.total-index ≡ 5 = omega arith in
-    c.loop-total.invariant.0 ∙ ap (λ n. sum_to n (listed c.args.totals.now)) all
+    let xs = c.args.totals.now in
+    let long : length xs ≡ 5 = search rules in
+    sum_by_from_yields_List (λ x. x) xs c.map.result c.sum.result c.sum.ensures.ran (YieldsList-from_map _ (λ x. x) (YieldsList-at c.map.ensures.source (YieldsList-from_slice xs (cc))) c.map.ensures.closure (λ x r q k. search rules))
+    ∙ sum_places xs
+    ∙ ap (λ n. sum_to n (listed xs)) long

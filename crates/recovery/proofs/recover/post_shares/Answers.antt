@@ -1,8 +1,8 @@
-use Rattle.std.proofs.Common.{◌≡◌, ◌+◌, ◌≤◌, cond, ◌&&◌, eqb, pos, ◌+ℤ◌, sym, ap, ◌∙◌, arith, w64, to_z, of_z}
+use Rattle.std.proofs.Common.{◌≡◌, ◌+◌, ◌≤◌, cond, ◌&&◌, eqb, pos, ◌+ℤ◌, ap, ◌∙◌, arith, w64, to_z, of_z}
 use Rattle.foundation.specs.Fault.{told}
 use Rattle.foundation.specs.Sums.{listed}
 use Rattle.foundation.proofs.First.{some_none}
-use Rattle.recovery.proofs.Lines.{lines_none, lines_at, lines_past, lines_mono, lines_few}
+use Rattle.recovery.proofs.Lines.{lines_at, lines_past, lines_mono}
 use Rattle.recovery.proofs.Posting.{line_is, post_passes, lowered_none, lowered_at, lowered_past}
 use Rattle.recovery.proofs.recover.post_shares.Goals as goal
 use Rattle.recovery.proofs.recover.post_shares.Goals.{then-share-gt0+in_ok-post, else-share-gt0}
@@ -13,7 +13,6 @@ debit-requires g c = c.requires.sizes c.loop-party.party (omega arith)
 pub loop-party-init : goal.loop-party-init
 loop-party-init g c =
     let shares = listed c.args.shares.now in (
-      sym (lines_none shares),
       lowered_none shares c.args.serial (g.L.Ledger.owed c.args.ledger.now),
       omega arith,
       omega arith,
@@ -26,13 +25,10 @@ returns-in_err-post g c =
     let k = c.loop-party.party in
     let due = lines_at shares k (omega arith) in
     let all = lines_mono shares (k + 1) 64 (omega arith) in
-    let left : 1 ≤ g.L.Ledger.room c.loop-party.ledger = omega (arith, c.requires.room, c.loop-party.invariant.2, due, all) in
+    let left : 1 ≤ g.L.Ledger.room c.loop-party.ledger = omega (arith, c.requires.room, c.loop-party.invariant.1, due, all) in
     let size = c.requires.sizes k (omega arith) in
     let passes = post_passes k c.args.serial (shares k) (g.L.Ledger.room c.loop-party.ledger) (to_z w64 (of_z w64 c.debit.result)) (omega arith) c.requires.first c.requires.last size left (line_is (shares k) c.debit.result size c.debit.ensures) in
     absurd (some_none (told c.in_err-post.field-0.0) (c.in_err-post.ensures.answer ∙ passes))
-
-pub overflow_add-lines : goal.overflow_add-lines
-overflow_add-lines g c = record { fits = omega (arith, c.loop-party.invariant.0, lines_few (listed c.args.shares.now) c.loop-party.party) }
 
 pub loop-party-preserved : goal.loop-party-preserved
 loop-party-preserved g c =
@@ -45,22 +41,20 @@ loop-party-preserved g c =
           let posts = w.in_ok-post.ensures in
           let line = line_is (shares k) w.debit.result (c.requires.sizes k (omega arith)) w.debit.ensures in
           let room = ap g.L.Ledger.room w.ledger-is in (
-            omega (arith, due, w.lines-is, c.loop-party.invariant.0),
             λ q t.
                 ap (λ x. g.L.Ledger.owed x q t) w.ledger-is
                 ∙ posts.amounts q t
-                ∙ ap (λ z. z +ℤ cond (eqb q k && eqb t c.args.serial) (to_z w64 (of_z w64 w.debit.result)) (pos 0)) (c.loop-party.invariant.1 q t)
+                ∙ ap (λ z. z +ℤ cond (eqb q k && eqb t c.args.serial) (to_z w64 (of_z w64 w.debit.result)) (pos 0)) (c.loop-party.invariant.0 q t)
                 ∙ lowered_at shares k c.args.serial (to_z w64 (of_z w64 w.debit.result)) owed q t line,
-            omega (arith, due, room, posts.falls.0, c.loop-party.invariant.2),
-            omega (arith, room, posts.falls.1, c.loop-party.invariant.3),
+            omega (arith, due, room, posts.falls.0, c.loop-party.invariant.1),
+            omega (arith, room, posts.falls.1, c.loop-party.invariant.2),
           )
       | else-share-gt0 w ↦
           let none : shares k ≡ 0 = omega arith in
           let due = lines_past shares k none in
           let room = ap g.L.Ledger.room w.ledger-is in (
-            omega (arith, due, w.lines-is, c.loop-party.invariant.0),
-            λ q t. ap (λ x. g.L.Ledger.owed x q t) w.ledger-is ∙ c.loop-party.invariant.1 q t ∙ lowered_past shares k c.args.serial owed q t none,
-            omega (arith, due, room, c.loop-party.invariant.2),
-            omega (arith, room, c.loop-party.invariant.3),
+            λ q t. ap (λ x. g.L.Ledger.owed x q t) w.ledger-is ∙ c.loop-party.invariant.0 q t ∙ lowered_past shares k c.args.serial owed q t none,
+            omega (arith, due, room, c.loop-party.invariant.1),
+            omega (arith, room, c.loop-party.invariant.2),
           )
     ]

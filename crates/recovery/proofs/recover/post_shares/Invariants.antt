@@ -6,7 +6,6 @@ use Rattle.recovery.proofs.recover.post_shares.Given as goal
 
 abbrev pub invariant-loop-party : goal.invariant-loop-party
 invariant-loop-party g l =
-    (l.lines ≡ lines_for (listed l.shares) l.party)
-    × ((q t : ℕ) → g.L.Ledger.owed l.ledger q t ≡ lowered (listed l.shares) l.party l.serial (g.L.Ledger.owed l.initial.ledger) q t)
+    ((q t : ℕ) → g.L.Ledger.owed l.ledger q t ≡ lowered (listed l.shares) l.party l.serial (g.L.Ledger.owed l.initial.ledger) q t)
     × (g.L.Ledger.room l.initial.ledger ≤ g.L.Ledger.room l.ledger + lines_for (listed l.shares) l.party)
     × (g.L.Ledger.room l.ledger ≤ g.L.Ledger.room l.initial.ledger)

@@ -15,7 +15,7 @@ returns-then-lines-lines_left g c =
     let made = c.in_ok-split.ensures in
     let lines = lines_eq (listed c.in_ok-split.split.shares) (share_paid c.args.regions b) 64 made.value.law.shares in
     record {
-      answer = ap (λ f. Some (told f)) c.fault-then-lines-lines_left.ensures ∙ sym (recover_lacks c.args.regions b c.args.serial (g.L.Ledger.room c.args.ledger.now) (omega arith) (omega arith) (sym made.answer) (omega (arith, lines, c.lines.ensures, c.lines_left.ensures)));
+      answer = ap (λ f. Some (told f)) c.fault-then-lines-lines_left.ensures ∙ sym (recover_lacks c.args.regions b c.args.serial (g.L.Ledger.room c.args.ledger.now) (omega arith) (omega arith) (sym made.answer) (omega (arith, lines, c.lines-lines.ensures, c.lines_left.ensures)));
       value = tt;
       law = tt;
       amounts = λ p s. refl;
@@ -31,7 +31,7 @@ post_shares-requires g c =
       first = omega arith;
       last = omega arith;
       sizes = λ p l. omega (arith, sum_to_one_le 64 (listed c.in_ok-split.split.shares) p l, made.value.law.whole, part_bounded c.args.regions b (sym made.answer));
-      room = omega (arith, c.lines.ensures, c.lines_left.ensures);
+      room = omega (arith, c.lines-lines.ensures, c.lines_left.ensures);
     }
 
 pub returns : goal.returns
@@ -40,10 +40,10 @@ returns g c =
     let made = c.in_ok-split.ensures in
     let same = made.value.law.shares in
     let lines = lines_eq (listed c.in_ok-split.split.shares) (share_paid c.args.regions b) 64 same in
-    let posts = c.in_ok-lines.ensures in
+    let posts = c.in_ok-post_shares.ensures in
     record {
-      answer = sym (recover_passes c.args.regions b c.args.serial (g.L.Ledger.room c.args.ledger.now) (omega arith) (omega arith) (sym made.answer) (omega (arith, lines, c.lines.ensures, c.lines_left.ensures)));
-      value = record { causers_are = c.cmpf.ensures ∙ made.value.all_causers; residual_is = c.crmpf.ensures ∙ made.value.residual; lines_are = posts.value ∙ lines };
+      answer = sym (recover_passes c.args.regions b c.args.serial (g.L.Ledger.room c.args.ledger.now) (omega arith) (omega arith) (sym made.answer) (omega (arith, lines, c.lines-lines.ensures, c.lines_left.ensures)));
+      value = record { causers_are = c.cmpf.ensures ∙ made.value.all_causers; residual_is = c.crmpf.ensures ∙ made.value.residual; lines_are = c.lines-lines.ensures ∙ lines };
       law = shared c.args.regions b (share_paid c.args.regions b) made.value.law.weighed (λ p l. refl);
       amounts = λ q t. posts.amounts q t ∙ lowered_eq (listed c.in_ok-split.split.shares) (share_paid c.args.regions b) c.args.serial (g.L.Ledger.owed c.args.ledger.now) q t same;
       falls = (omega (arith, lines, posts.few), posts.falls);

@@ -1,13 +1,15 @@
-use Rattle.std.proofs.Common.{◌<◌, length, arith}
-use Rattle.std.proofs.lemmas.List.{length-set}
-use Rattle.sampling.proofs.Subtotals.{filled}
-use Rattle.recovery.specs.Shares.{held_in}
+use Rattle.std.proofs.Common.{◌≡◌, ℕ, rules, sym, ap, ◌∙◌}
+use Rattle.foundation.specs.Sums.{sum_to}
+use Rattle.foundation.proofs.Arrays.{made_at}
+use Rattle.energy.specs.Energy.{within}
+use Rattle.energy.specs.Table.{figure_of}
+use Rattle.recovery.proofs.Laws.{held_is}
 use Rattle.recovery.proofs.weights.energies_in.Goals as goal
 
-pub loop-party-preserved : goal.loop-party-preserved
-loop-party-preserved g c =
-    let f = held_in c.args.regions (g.E.EnergySource.kwh c.args.source.now) in
-    let here : c.loop-party.party < length c.loop-party.energies = omega (arith, c.loop-party.invariant.0) in (
-      simp length-set c.loop-party.invariant.0,
-      filled f c.loop-party.energies c.loop-party.party c.energy_in.result here c.energy_in.ensures c.loop-party.invariant.1,
-    )
+pub returns : goal.returns
+returns c = λ k l.
+    made_at _ (λ (p : ℕ) (y : ℕ). y ≡ sum_to 5 (within c.new-island.result.regions (figure_of c.new-island.result.below.rows) p))
+    _ (λ p y q h. search rules) _ _ c.from_fn.ensures.items k 0 l
+    ∙ ap (λ f. sum_to 5 (within c.new-island.result.regions (figure_of f.rows) k)) c.new-island.ensures.made.0
+    ∙ ap (λ D. sum_to 5 (within D (figure_of c.args.figures.rows) k)) c.new-island.ensures.made.1
+    ∙ sym (held_is c.args.regions (figure_of c.args.figures.rows) k)

@@ -1,31 +1,27 @@
-use Rattle.std.proofs.Common.{◌≡◌, ℕ, ◌+◌, length, sym, ap, ◌∙◌, add-one, arith, rules}
-use Rattle.foundation.specs.Sums.{sum_to}
-use Rattle.foundation.proofs.Sums.{sum_to_none, sum_to_more, sum_to_mono}
+use Rattle.std.specs.Prelude.{◌≡◌, ℕ, ◌^◌, List, [], length, sum_by}
+use Rattle.std.proofs.Common.{sym, ap, ◌∙◌, arith, rules}
+use Rattle.std.proofs.lemmas.Iterator.{YieldsList-from_slice, YieldsList-from_map}
+use Rattle.std.proofs.lemmas.Iterator.Consumers.{YieldsList-at, fits_by_from_yields_list, sum_by_from_yields_List}
+use Rattle.foundation.specs.Sums.{listed, sum_to}
+use Rattle.foundation.proofs.Lists.{sum_by_places}
+use Rattle.energy.specs.Energy.{in_region}
 use Rattle.energy.specs.Table.{figure_of}
 use Rattle.energy.specs.Totals.{region_is, region_le, total_inside}
 use Rattle.energy.proofs.figures.FiguresEnergySource.total.Goals as goal
 
-pub loop-row-init : goal.loop-row-init
-loop-row-init c = sym (sum_to_none _)
+sum_rows : (rows : List (List ℕ)) (r : ℕ) → length rows ≡ 64 → sum_by (λ row. listed row r) rows ≡ in_region (figure_of rows) r
+sum_rows rows r long = sum_by_places (λ row. listed row r) rows [] ∙ ap (λ n. sum_to n (λ p. figure_of rows p r)) long ∙ sym (region_is (figure_of rows) r)
 
-pub overflow_add-sum : goal.overflow_add-sum
-overflow_add-sum c =
-    let f = figure_of c.args.self.now.rows in
-    let column : ℕ → ℕ = λ p. f p c.args.region in
-    let rows : length c.args.self.now.rows ≡ 64 = search rules in
-    let part = sum_to_mono (c.loop-row.row-index + 1) 64 column (omega arith) in
-    let more = ap (λ n. sum_to n column) (add-one c.loop-row.row-index) ∙ sum_to_more c.loop-row.row-index column in
-    record { fits = omega (arith, c.loop-row.invariant, part, more, region_is f c.args.region, region_le f c.args.region (omega arith), c.args.self.now.limited) }
-
-pub loop-row-preserved : goal.loop-row-preserved
-loop-row-preserved c =
-    let column : ℕ → ℕ = λ p. figure_of c.args.self.now.rows p c.args.region in
-    let more = ap (λ n. sum_to n column) (add-one c.loop-row.row-index) ∙ sum_to_more c.loop-row.row-index column in
-    omega (arith, c.loop-row.invariant, more)
+pub sum-requires-clause-fits : goal.sum-requires-clause-fits
+sum-requires-clause-fits c =
+    let rows = c.args.self.now.rows in
+    let long : length rows ≡ 64 = search rules in
+    fits_by_from_yields_list (λ row. listed row c.args.region) rows c.map.result (2 ^ 32) (YieldsList-from_map _ (λ row. listed row c.args.region) (YieldsList-at c.map.ensures.source (YieldsList-from_slice rows (cc))) c.map.ensures.closure (λ x r q k. search rules)) (omega (arith, sum_rows rows c.args.region long, region_le (figure_of rows) c.args.region (omega arith), c.args.self.now.limited))
 
 pub returns : goal.returns
 returns c =
-    let f = figure_of c.args.self.now.rows in
-    let rows : length c.args.self.now.rows ≡ 64 = search rules in
-    let all : c.loop-row.row-index ≡ 64 = omega arith in
-    c.loop-row.invariant ∙ ap (λ n. sum_to n (λ p. f p c.args.region)) all ∙ sym (region_is f c.args.region) ∙ sym (total_inside f c.args.region (omega arith))
+    let rows = c.args.self.now.rows in
+    let long : length rows ≡ 64 = search rules in
+    sum_by_from_yields_List (λ row. listed row c.args.region) rows c.map.result c.sum.result c.sum.ensures.ran (YieldsList-from_map _ (λ row. listed row c.args.region) (YieldsList-at c.map.ensures.source (YieldsList-from_slice rows (cc))) c.map.ensures.closure (λ x r q k. search rules))
+    ∙ sum_rows rows c.args.region long
+    ∙ sym (total_inside (figure_of rows) c.args.region (omega arith))

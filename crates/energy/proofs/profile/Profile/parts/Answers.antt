@@ -1,23 +1,21 @@
-use Rattle.std.proofs.Common.{◌≡◌, ◌^◌, ◌<◌, length, sym, ap, ◌∙◌, subst, arith, rules}
+use Rattle.std.proofs.Common.{◌≡◌, ℕ, ◌<◌, ◌∙◌, w16, Fits, ap, arith, rules}
 use Rattle.foundation.specs.Division.{share}
-use Rattle.foundation.specs.Sums.{listed, sum_to}
+use Rattle.foundation.specs.Sums.{listed}
 use Rattle.foundation.proofs.Shares.{share_eq}
 use Rattle.foundation.proofs.Sums.{sum_to_bound}
 use Rattle.energy.proofs.profile.Profile.parts.Goals as goal
 
-pub divide-requires : goal.divide-requires
-divide-requires c =
-    let long : length c.widened.result ≡ 64 = search rules in
-    record {
-      length = sym long;
-      fits = subst (λ n. sum_to n (listed c.widened.result) < 2 ^ 64) (sym long) (omega (arith, sum_to_bound 64 65535 (listed c.widened.result) c.widened.ensures.bound));
-    }
+pub shares-requires : goal.shares-requires
+shares-requires c =
+    let w = listed c.args.self.now.weights in
+    let same : (p : ℕ) → p < 64 → listed c.map.result p ≡ w p = λ p l. let h = (c.map.ensures.items.at p 0 0 l).2 in search rules in
+    let small : (p : ℕ) → Fits w16 (w p) = λ p. search rules in
+    (omega arith, omega (arith, sum_to_bound 64 65535 (listed c.map.result) (λ p l. omega (arith, same p l, (small p).fits))))
 
 pub returns : goal.returns
 returns c p l =
-    let long : length c.widened.result ≡ 64 = search rules in
-    let w = listed c.widened.result in
-    c.divide.ensures.shares p (omega arith)
-    ∙ ap (λ n. share c.from.result n w p) long
-    ∙ ap (λ a. share a 64 w p) c.from.ensures
-    ∙ share_eq (listed c.args.self.now.totals c.args.region) 64 w (listed c.args.self.now.weights) c.widened.ensures.value p l
+    let w = listed c.args.self.now.weights in
+    let same : (q : ℕ) → q < 64 → listed c.map.result q ≡ w q = λ q m. let h = (c.map.ensures.items.at q 0 0 m).2 in search rules in
+    c.shares.ensures.shares p l
+    ∙ ap (λ a. share a 64 (listed c.map.result) p) c.from.ensures
+    ∙ share_eq (listed c.args.self.now.totals c.args.region) 64 (listed c.map.result) w same p l

@@ -1,17 +1,12 @@
-use Rattle.std.proofs.Common.{sym, arith}
+use Rattle.std.proofs.Common.{◌≡◌, ltb, length, ap, ◌∙◌, rules}
+use Rattle.std.specs.List.{count_by}
 use Rattle.foundation.specs.Sums.{listed}
-use Rattle.recovery.proofs.Lines.{lines_none, lines_at, lines_past}
+use Rattle.recovery.specs.Shares.{lines_for}
+use Rattle.recovery.proofs.Lines.{lines_counted}
 use Rattle.recovery.proofs.split.Split.lines.Goals as goal
-use Rattle.recovery.proofs.split.Split.lines.Goals.{then-share-gt0, else-share-gt0}
 
-pub loop-share-init : goal.loop-share-init
-loop-share-init c = (sym (lines_none _), omega arith)
-
-pub loop-share-preserved : goal.loop-share-preserved
-loop-share-preserved c =
-    let shares = listed c.args.self.now.shares in
-    let k = c.loop-share.share-index in
-    elim c.if-share-gt0.branch [
-      | then-share-gt0 w ↦ (omega (arith, w.lines-is, lines_at shares k (omega arith), c.loop-share.invariant.0), omega (arith, w.lines-is, c.loop-share.invariant.1))
-      | else-share-gt0 w ↦ (omega (arith, w.lines-is, lines_past shares k (omega arith), c.loop-share.invariant.0), omega (arith, w.lines-is, c.loop-share.invariant.1))
-    ]
+pub returns : goal.returns
+returns c =
+    let counted : c.count.result ≡ count_by (λ s. ltb 0 s) c.args.self.now.shares = search rules in
+    let long : length c.args.self.now.shares ≡ 64 = search rules in
+    counted ∙ lines_counted c.args.self.now.shares ∙ ap (lines_for (listed c.args.self.now.shares)) long
