@@ -1,7 +1,7 @@
 -- Which lines choose the ledger.
 use Rattle.std.proofs.Common.{◌≡◌, ℕ, zero, suc, ◌+◌, ◌-◌, ◌<◌, ◌≤◌, Bool, true, false, List, [], ◌∷◌, length, get_or, drop, Some, None, ⊎_elim, sym, ap, ◌∙◌, arith, length-drop, rules}
-use Rattle.std.specs.List.{position, position_or_len, slice_range}
-use Rattle.std.proofs.lemmas.List.{get_or-drop, take_all}
+use Rattle.std.specs.List.{position, position_or_len}
+use Rattle.std.proofs.lemmas.List.{get_or-drop}
 use Rattle.std.proofs.lemmas.List.Quantifiers.{position-Some}
 use Rattle.std.proofs.lemmas.List.Sums.{fails_before_first}
 use Rattle.std.proofs.lemmas.Bool.{cases_lt, lt-ltb}
@@ -41,9 +41,6 @@ module _ (lines : List Line) (from : ℕ) where
   -- line j is line j - from of those from there on
   onward : (j : ℕ) → from ≤ j → get_or (drop from lines) (j - from) no_line ≡ get_or lines j no_line
   onward j l = get_or-drop from lines (j - from) no_line ∙ ap (λ i. get_or lines i no_line) (omega arith)
-
-  pub rest_of : slice_range lines from (length lines) ≡ drop from lines
-  rest_of = take_all (length lines - from) (drop from lines) (omega (arith, length-drop from lines))
 
   -- none chooses past the last line
   pub none_past : length lines < from → (k : ℕ) → from ≤ k → ChoosesAt lines k → ⊥

@@ -3,13 +3,12 @@ use Rattle.std.proofs.Common.{◌≡◌, ℕ, ◌+◌, ◌*◌, ◌<◌, ◌≤�
 use Rattle.foundation.specs.Sums.{sum_to, listed}
 use Rattle.foundation.proofs.Sums.{sum_to_eq, sum_to_one_le}
 use Rattle.sampling.specs.declared.factors.Factors.{Factors}
-use Rattle.sampling.specs.Factors.{is_factored}
 use Rattle.recovery.specs.declared.split.Split.{Split}
 use Rattle.recovery.specs.Shares.{Basis, basis_of, held_in, energy_in, atce, cmpf, crmpf, exact_top, exact_bottom}
 use Rattle.recovery.specs.Split.{Parted, share_in, energy_of}
 use Rattle.recovery.proofs.Bounds.{held_all, atce_most, cmpf_most, crmpf_most, factors_most}
 use Rattle.recovery.proofs.Laws.{customer_le}
-use Rattle.settle.specs.Exact.{SplitOf}
+use Rattle.settle.specs.Exact.{Bounded, SplitOf}
 
 -- products that fit
 pub product_above : (m n : ℕ) → 0 < m → 0 < n → 0 < m * n
@@ -36,33 +35,25 @@ module _ (part : ℕ) (f : Factors) (s : Split) (h : SplitOf part f s) where
   abbrev basis : Basis
   basis = basis_of part f h.kwh
 
-  pub weights_some : 0 < s.cmpf + s.crmpf
-  weights_some = omega (arith, weights_are h.regions basis s h.parted, h.parted.law.weighed)
+  pub bounded : Bounded part f s
+  bounded = record {
+    small = h.small;
+    weighed = omega (arith, weights_are h.regions basis s h.parted, h.parted.law.weighed);
+    weights = omega (arith, weights_are h.regions basis s h.parted, cmpf_most h.regions basis, crmpf_most h.regions basis, factors_most f);
+    energies =
+        omega (
+          arith,
+          sum_to_eq 64 (energy_of s) (held_in h.regions h.kwh) (energy_is h.regions basis s h.parted),
+          held_all h.regions h.kwh,
+          h.limited,
+        );
+    customers = omega (arith, h.parted.all_customers, atce_most h.regions basis, h.limited);
+    customer = λ p l off some. omega (arith, h.parted.all_customers, customer_le h.regions basis p l off, energy_is h.regions basis s h.parted p l);
+    whole = sum_to_eq 64 (share_in s) (listed s.shares) (λ p l. there p (listed s.shares p) l) ∙ h.parted.law.whole;
+  }
 
-  pub weights_most : s.cmpf + s.crmpf ≤ 1000000
-  weights_most = omega (arith, weights_are h.regions basis s h.parted, cmpf_most h.regions basis, crmpf_most h.regions basis, factors_most f)
-
-  pub energies_most : sum_to 64 (energy_of s) ≤ 40000000
-  energies_most =
-      omega (
-        arith,
-        sum_to_eq 64 (energy_of s) (held_in h.regions h.kwh) (energy_is h.regions basis s h.parted),
-        held_all h.regions h.kwh,
-        h.limited,
-      )
-
-  pub energy_most : (p : ℕ) → p < 64 → energy_of s p ≤ 40000000
-  energy_most p l = omega (arith, sum_to_one_le 64 (energy_of s) p l, energies_most)
-
-  pub customers_most : s.residual_energy ≤ 40000000
-  customers_most = omega (arith, h.parted.all_customers, atce_most h.regions basis, h.limited)
-
-  pub customers_some : (p : ℕ) → p < 64 → is_factored f p ≡ false → 0 < energy_of s p → 0 < s.residual_energy
-  customers_some p l off some =
-      omega (arith, h.parted.all_customers, customer_le h.regions basis p l off, energy_is h.regions basis s h.parted p l)
-
-  pub shares_whole : sum_to 64 (share_in s) ≡ part
-  shares_whole = sum_to_eq 64 (share_in s) (listed s.shares) (λ p l. there p (listed s.shares p) l) ∙ h.parted.law.whole
+pub energy_most : (part : ℕ) (f : Factors) (s : Split) → Bounded part f s → (p : ℕ) → p < 64 → energy_of s p ≤ 40000000
+energy_most part f s b p l = omega (arith, sum_to_one_le 64 (energy_of s) p l, b.energies)
 
 -- the exact share of a party with energy
 module _ (D : ℕ) (b : Basis) (p : ℕ) (some : 0 < energy_in D b p) where

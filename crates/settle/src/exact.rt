@@ -5,7 +5,7 @@ ghost use Rattle.foundation.specs.Sums.{listed, sum_to};
 ghost use Rattle.recovery.specs.Recovery.{split_fault};
 ghost use Rattle.recovery.specs.Shares.{basis_of};
 ghost use Rattle.recovery.specs.Split.{energy_of};
-ghost use Rattle.settle.specs.Exact.{ExactOf, SplitOf, off_by, thousandths_of};
+ghost use Rattle.settle.specs.Exact.{Bounded, ExactOf, SplitOf, off_by, thousandths_of};
 
 use energy::source::{EnergySource, PARTIES};
 use foundation::fault::Fault;
@@ -108,68 +108,80 @@ impl Exact {
     }
 }
 
-// The split of a part; what holds of it bounds all figures below.
-pub(crate) fn split<E: EnergySource>(
-    part: u64,
-    regions: u8,
-    factors: &Factors,
-    source: &E,
-) -> Result<Split, Fault>
-    ensures answer { refusal result ≡ split_fault regions (basis_of part factors.now (E.EnergySource.kwh source.now)) }
-    ensures value { IfOk result (λ s. SplitOf part factors.now s) }
-{
-    Split::of(part, regions, factors, source)
+// A part split by factors. What holds of it bounds all figures below.
+#[derive(Drop)]
+pub(crate) struct PartSplit<'a> {
+    pub(crate) part: u64,
+    pub(crate) factors: &'a Factors,
+    pub(crate) shares: Split,
+    ghost bounded: { Bounded part factors.now shares },
 }
 
-// The exact share of a party with energy.
-pub(crate) fn of_party(split: &Split, part: u64, factors: &Factors, party: u16) -> Exact
-    requires split { SplitOf part factors.now split.now }
-    requires party { party < 64 }
-    requires energy { 0 < energy_of split.now party }
-    ensures { ExactOf part factors.now split.now party result.top result.bottom }
-{
-    let weights = split.cmpf() + split.crmpf();
-    if factors.is_factored(party) {
-        return Exact::of_weight(part, factors.factor(party), weights);
+impl<'a> PartSplit<'a> {
+    pub(crate) fn of<E: EnergySource>(
+        part: u64,
+        regions: u8,
+        factors: &'a Factors,
+        source: &E,
+    ) -> Result<PartSplit<'a>, Fault>
+        ensures answer { refusal result ≡ split_fault regions (basis_of part factors.now (E.EnergySource.kwh source.now)) }
+        ensures value { IfOk result (λ s. SplitOf part factors.now s.shares) }
+    {
+        let shares = Split::of(part, regions, factors, source)?;
+        Ok(PartSplit {
+            part,
+            factors,
+            shares,
+        })
     }
-    Exact::of_energy(
-        part,
-        split.crmpf(),
-        weights,
-        split.energy(party),
-        split.residual_energy(),
-    )
+
+    // The exact share of a party with energy.
+    pub(crate) fn of_party(&self, party: u16) -> Exact
+        requires party { party < 64 }
+        requires energy { 0 < energy_of self.now.shares party }
+        ensures { ExactOf self.now.part self.now.factors.now self.now.shares party result.top result.bottom }
+    {
+        let weights = self.shares.cmpf() + self.shares.crmpf();
+        if self.factors.is_factored(party) {
+            return Exact::of_weight(self.part, self.factors.factor(party), weights);
+        }
+        Exact::of_energy(
+            self.part,
+            self.shares.crmpf(),
+            weights,
+            self.shares.energy(party),
+            self.shares.residual_energy(),
+        )
+    }
+
+    // The exact share of the residual.
+    pub(crate) fn of_residual(&self) -> Exact
+        ensures top { result.top ≡ self.now.part * self.now.shares.crmpf }
+        ensures bottom { result.bottom ≡ self.now.shares.cmpf + self.now.shares.crmpf }
+    {
+        let weights = self.shares.cmpf() + self.shares.crmpf();
+        Exact::of_weight(self.part, self.shares.crmpf(), weights)
+    }
+
+    // What all parties have together.
+    pub(crate) fn sums(&self) -> Sums
+        ensures energy { result.energy ≡ sum_to 64 (energy_of self.now.shares) }
+        ensures share { result.share ≡ self.now.part }
+    {
+        let mut energy = 0;
+        let mut share = 0;
+        for party in 0..PARTIES {
+            energy += self.shares.energy(party);
+            share += self.shares.share(party);
+        }
+        Sums { energy, share }
+    }
 }
 
-// The exact share of the residual.
-pub(crate) fn of_residual(split: &Split, part: u64, factors: &Factors) -> Exact
-    requires split { SplitOf part factors.now split.now }
-    ensures top { result.top ≡ part * split.now.crmpf }
-    ensures bottom { result.bottom ≡ split.now.cmpf + split.now.crmpf }
-{
-    let weights = split.cmpf() + split.crmpf();
-    Exact::of_weight(part, split.crmpf(), weights)
-}
-
-// What all parties have together.
 #[derive(Clone, Copy)]
 pub(crate) struct Sums {
     pub(crate) energy: u64,
     pub(crate) share: u64,
-}
-
-pub(crate) fn all_parties(split: &Split, part: u64, factors: &Factors) -> Sums
-    requires split { SplitOf part factors.now split.now }
-    ensures energy { result.energy ≡ sum_to 64 (energy_of split.now) }
-    ensures share { result.share ≡ part }
-{
-    let mut energy = 0;
-    let mut share = 0;
-    for party in 0..PARTIES {
-        energy += split.energy(party);
-        share += split.share(party);
-    }
-    Sums { energy, share }
 }
 
 #[cfg(test)]

@@ -7,7 +7,9 @@ ghost use Rattle.settle.specs.Numbers.{Reads, Numbers, Exactly, Within, FiveTota
 use crate::sheet::NoStep;
 use std::alloc::Global;
 
-const PARTIES: usize = energy::source::PARTIES as usize;
+pub(crate) const PARTIES: usize = energy::source::PARTIES as usize;
+
+pub(crate) const REGIONS: usize = energy::source::REGIONS as usize;
 
 // A number of at most `most` in digits alone: `parse` would take a sign.
 pub(crate) fn number(word: &str, most: u64) -> Result<u64, NoStep>
@@ -57,10 +59,10 @@ pub(crate) fn owners(heap: Global, words: &[&str]) -> Result<Vec<u8>, NoStep>
     Ok(owners)
 }
 
-pub(crate) fn totals(words: &[&str]) -> Result<[u32; 5], NoStep>
+pub(crate) fn totals(words: &[&str]) -> Result<[u32; REGIONS], NoStep>
     ensures { Parsed (λ ns. FiveTotals (texts words.now) ns) result }
 {
-    let [a, b, c, d, e] = exactly::<5>(words, 4_294_967_295)?;
+    let [a, b, c, d, e] = exactly::<REGIONS>(words, 4_294_967_295)?;
     Ok([a as u32, b as u32, c as u32, d as u32, e as u32])
 }
 

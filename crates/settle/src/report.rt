@@ -8,7 +8,7 @@ use std::io::Write;
 use std::{fmt, io};
 
 // The owner that stands for the residual.
-const RESIDUAL: u16 = 64;
+const RESIDUAL: u16 = PARTIES;
 
 // A factor in percent has as many decimals as a millionth needs.
 fn percent(factor: u64) -> (u64, u64)

@@ -5,6 +5,7 @@ ghost use Rattle.settle.specs.Choice.{ChoosesAt, FirstFrom, chooses_ledger};
 ghost use Rattle.settle.specs.Sheet.{said_of, words_of, Parsed, texts, AsksAll};
 
 use crate::failure::Failure;
+use crate::numbers::{PARTIES, REGIONS};
 use crate::steps::asked;
 use session::call::Call;
 use std::alloc::{AllocError, AllocFailed, Global};
@@ -19,8 +20,8 @@ pub(crate) enum Step {
     },
     Metered(String),
     Profile {
-        totals: [u32; 5],
-        weights: [u16; 64],
+        totals: [u32; REGIONS],
+        weights: [u16; PARTIES],
     },
     Island(u8),
     Handover {

@@ -2,13 +2,11 @@
 ghost use Rattle.std.specs.Prelude.{◌≡◌, [], ◌∷◌, if◌then◌else◌, string_bytes, codes};
 ghost use Rattle.settle.specs.Sheet.{Parsed, texts, Asks};
 
-use crate::numbers::{byte, exactly, number, owners, totals, weights};
+use crate::numbers::{REGIONS, byte, exactly, number, owners, totals, weights};
 use crate::sheet::{NoStep, Step};
 use crate::terms::{heading, terms};
 use session::call::Call;
 use std::alloc::Global;
-
-const REGIONS: usize = energy::source::REGIONS as usize;
 
 // The words of a claim before its terms.
 const HEADING: usize = 4;

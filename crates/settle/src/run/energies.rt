@@ -1,9 +1,10 @@
 // The steps that set and ask the energy source.
-ghost use Rattle.std.specs.Prelude.{◌≡◌, ◌+◌, [], ◌∷◌, slice_index};
+ghost use Rattle.std.specs.Prelude.{◌≡◌, [], ◌∷◌, sum};
 ghost use Rattle.energy.specs.Energy.{total_of};
 
 use super::{Run, unusable};
 use crate::failure::Failure;
+use crate::numbers::{PARTIES, REGIONS};
 use energy::dispatch::dispatch_figure;
 use energy::figures::Figures;
 use energy::handover::Handover;
@@ -11,6 +12,7 @@ use energy::island::Island;
 use energy::metered::Metered;
 use energy::profile::Profile;
 use energy::source::EnergySource;
+use std::array;
 
 const METERED_BYTES: usize = 8;
 
@@ -46,8 +48,8 @@ impl Run {
     pub(super) fn profile(
         &mut self,
         line: usize,
-        totals: [u32; 5],
-        weights: [u16; 64],
+        totals: [u32; REGIONS],
+        weights: [u16; PARTIES],
     ) -> Result<(), Failure> {
         match Profile::new(totals, weights) {
             Ok(profile) => {
@@ -77,8 +79,9 @@ impl Run {
     }
 
     pub(super) fn totals(&mut self, line: usize) -> Result<(), Failure> {
-        let [a, b, c, d, e] = totals(&self.energies);
-        let sum = sum([a, b, c, d, e]);
+        let totals = totals(&self.energies);
+        let sum = sum(&totals);
+        let [a, b, c, d, e] = totals;
         self.say(line, format_args!("totals {a} {b} {c} {d} {e}, sum {sum}"))
     }
 
@@ -97,21 +100,14 @@ impl Run {
 }
 
 // The totals of regions 0 to 4.
-fn totals<E: EnergySource>(source: &E) -> [u32; 5]
+fn totals<E: EnergySource>(source: &E) -> [u32; REGIONS]
     ensures { result ≡ total_of (E.EnergySource.kwh source.now) 0 ∷ total_of (E.EnergySource.kwh source.now) 1 ∷ total_of (E.EnergySource.kwh source.now) 2 ∷ total_of (E.EnergySource.kwh source.now) 3 ∷ total_of (E.EnergySource.kwh source.now) 4 ∷ [] }
 {
-    [
-        source.total(0),
-        source.total(1),
-        source.total(2),
-        source.total(3),
-        source.total(4),
-    ]
+    array::from_fn(|region| source.total(region as u8))
 }
 
-fn sum(totals: [u32; 5]) -> u64
-    ensures { result ≡ slice_index totals 0 + slice_index totals 1 + slice_index totals 2 + slice_index totals 3 + slice_index totals 4 }
+fn sum(of: &[u32; REGIONS]) -> u64
+    ensures { result ≡ sum of.now }
 {
-    let [a, b, c, d, e] = totals;
-    u64::from(a) + u64::from(b) + u64::from(c) + u64::from(d) + u64::from(e)
+    of.iter().map(|total| u64::from(*total)).sum()
 }

@@ -1,17 +1,13 @@
 // The step that shows who pays which share.
 ghost use Rattle.std.specs.Prelude.{◌<◌};
 ghost use Rattle.recovery.specs.Split.{energy_of};
-ghost use Rattle.settle.specs.Exact.{SplitOf};
 
 use super::Run;
 use crate::counted::Counted;
-use crate::exact;
-use crate::exact::Exact;
+use crate::exact::{Exact, PartSplit, Sums};
 use crate::failure::Failure;
 use crate::money::Dollars;
-use energy::source::{EnergySource, PARTIES};
-use recovery::split::Split;
-use sampling::factors::Factors;
+use energy::source::PARTIES;
 use std::alloc::Global;
 use std::fmt::Display;
 use std::io::Write;
@@ -28,21 +24,22 @@ impl Run {
         let Some(factors) = &self.published else {
             return self.say(line, "no factors are published, so there is no split");
         };
-        match exact::split(part, set, factors, &self.energies) {
+        match PartSplit::of(part, set, factors, &self.energies) {
             Ok(split) => {
-                summary(&mut self.out, line, part, set, &split)?;
-                table(&mut self.out, heap, &split, part, factors)
+                summary(&mut self.out, line, set, &split)?;
+                table(&mut self.out, heap, &split)
             }
             Err(fault) => self.say(line, fault),
         }
     }
 }
 
-fn summary(out: &mut impl Write, line: usize, part: u64, set: u8, split: &Split) -> io::Result<()> {
-    let cmpf = split.cmpf();
-    let crmpf = split.crmpf();
+fn summary(out: &mut impl Write, line: usize, set: u8, split: &PartSplit) -> io::Result<()> {
+    let part = split.part;
+    let cmpf = split.shares.cmpf();
+    let crmpf = split.shares.crmpf();
     let lines = Counted {
-        count: split.lines() as usize,
+        count: split.shares.lines() as usize,
         what: "line",
     };
     writeln!(
@@ -85,33 +82,30 @@ struct Row {
 }
 
 impl Row {
-    fn of_party(split: &Split, part: u64, factors: &Factors, party: u16) -> Row
-        requires split { SplitOf part factors.now split.now }
+    fn of_party(split: &PartSplit, party: u16) -> Row
         requires party { party < 64 }
-        requires energy { 0 < energy_of split.now party }
+        requires energy { 0 < energy_of split.now.shares party }
     {
-        let energy = split.energy(party);
-        let weight = if factors.is_factored(party) {
-            Weight::Factor(factors.factor(party))
+        let energy = split.shares.energy(party);
+        let weight = if split.factors.is_factored(party) {
+            Weight::Factor(split.factors.factor(party))
         } else {
             Weight::Energy(energy)
         };
         Row {
             energy,
             weight,
-            share: split.share(party),
-            exact: exact::of_party(split, part, factors, party),
+            share: split.shares.share(party),
+            exact: split.of_party(party),
         }
     }
 
-    fn of_residual(split: &Split, part: u64, factors: &Factors) -> Row
-        requires split { SplitOf part factors.now split.now }
-    {
+    fn of_residual(split: &PartSplit) -> Row {
         Row {
-            energy: split.residual_energy(),
-            weight: Weight::Factor(split.crmpf()),
-            share: split.residual_part(),
-            exact: exact::of_residual(split, part, factors),
+            energy: split.shares.residual_energy(),
+            weight: Weight::Factor(split.shares.crmpf()),
+            share: split.shares.residual_part(),
+            exact: split.of_residual(),
         }
     }
 
@@ -136,35 +130,17 @@ impl Row {
 }
 
 // A row for each party with energy in the regions.
-fn parties(
-    out: &mut impl Write,
-    heap: Global,
-    split: &Split,
-    part: u64,
-    factors: &Factors,
-) -> Result<(), Failure>
-    requires split { SplitOf part factors.now split.now }
-{
+fn parties(out: &mut impl Write, heap: Global, split: &PartSplit) -> Result<(), Failure> {
     for party in 0..PARTIES {
-        if split.energy(party) > 0 {
-            Row::of_party(split, part, factors, party).print(out, heap, party)?;
+        if split.shares.energy(party) > 0 {
+            Row::of_party(split, party).print(out, heap, party)?;
         }
     }
     Ok(())
 }
 
-fn sums(
-    out: &mut impl Write,
-    heap: Global,
-    split: &Split,
-    part: u64,
-    factors: &Factors,
-) -> Result<(), Failure>
-    requires split { SplitOf part factors.now split.now }
-{
-    let sums = exact::all_parties(split, part, factors);
-    let energy = sums.energy;
-    let share = sums.share;
+fn sums(out: &mut impl Write, heap: Global, split: &PartSplit) -> Result<(), Failure> {
+    let Sums { energy, share } = split.sums();
     let dollars = Dollars::of_share(share).to_string(heap)?;
     writeln!(
         out,
@@ -174,17 +150,9 @@ fn sums(
     Ok(())
 }
 
-fn table(
-    out: &mut impl Write,
-    heap: Global,
-    split: &Split,
-    part: u64,
-    factors: &Factors,
-) -> Result<(), Failure>
-    requires split { SplitOf part factors.now split.now }
-{
+fn table(out: &mut impl Write, heap: Global, split: &PartSplit) -> Result<(), Failure> {
     heading(out)?;
-    parties(out, heap, split, part, factors)?;
-    Row::of_residual(split, part, factors).print(out, heap, "residual")?;
-    sums(out, heap, split, part, factors)
+    parties(out, heap, split)?;
+    Row::of_residual(split).print(out, heap, "residual")?;
+    sums(out, heap, split)
 }
