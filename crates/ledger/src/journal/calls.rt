@@ -78,6 +78,7 @@ impl<'a> Ledger for Journal<'a> {
         }
         let bytes = &*self.bytes;
         let (records, _) = bytes.as_chunks::<16>();
+        // A loop, as no contract bounds the running sum of a chain of signed numbers.
         let mut sum = 0;
         for record in &records[..self.written] {
             sum += line_of(Entry::from(*record), party, serial);
