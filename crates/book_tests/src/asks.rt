@@ -219,9 +219,9 @@ fn refuses<L: Ledger>(
     ledger: &L,
     asked: &[(u8, u16, u32, Terms, u64, u8, usize)],
 ) -> bool {
-    for claim in asked {
-        let answer = ask_open(book, claim.0, claim.1, claim.2, terms_of(claim.3), claim.4);
-        if !is_refused(answer, claim.5, claim.6) || !is_begun(&*book, ledger) {
+    for (number, interval, value, terms, part, refusal, place) in asked {
+        let answer = ask_open(book, *number, *interval, *value, terms_of(*terms), *part);
+        if !is_refused(answer, *refusal, *place) || !is_begun(&*book, ledger) {
             return false;
         }
     }

@@ -44,12 +44,7 @@ pub(crate) fn begin<L: Ledger>(rt: &impl Abort, case: &Case, ledger: &mut L) -> 
 
 // Whether the numbers from this one on are free, also past the last.
 pub(crate) fn are_free(book: &Book, first: u8) -> bool {
-    for number in first..20 {
-        if !is_free(book, number) {
-            return false;
-        }
-    }
-    is_free(book, 0) && is_free(book, 255)
+    (first..20).all(|number| is_free(book, number)) && is_free(book, 0) && is_free(book, 255)
 }
 
 fn is_unclaimed(

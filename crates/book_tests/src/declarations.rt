@@ -37,44 +37,28 @@ const NOT_WITHDRAWN: [(u8, u8); 6] = [(0, 2), (17, 2), (255, 2), (3, 9), (16, 9)
 
 // Whether each declaration is refused so, and leaves all as it was.
 fn refuses_to_declare<L: Ledger>(book: &mut Book, ledger: &L) -> bool {
-    for (number, kind, set, refusal) in REFUSED {
-        if !is_refused(book.declare(number, kind, set), refusal, 0) || !is_begun(&*book, ledger) {
-            return false;
-        }
-    }
-    true
+    REFUSED.iter().all(|(number, kind, set, refusal)| {
+        is_refused(book.declare(*number, *kind, *set), *refusal, 0) && is_begun(&*book, ledger)
+    })
 }
 
 // Whether each withdrawal is refused so, and leaves all as it was.
 fn refuses_to_withdraw<L: Ledger>(book: &mut Book, ledger: &L) -> bool {
-    for (number, refusal) in NOT_WITHDRAWN {
-        if !is_refused(book.withdraw(number), refusal, 0) || !is_begun(&*book, ledger) {
-            return false;
-        }
-    }
-    true
+    NOT_WITHDRAWN.iter().all(|(number, refusal)| {
+        is_refused(book.withdraw(*number), *refusal, 0) && is_begun(&*book, ledger)
+    })
 }
 
 // Whether each number is declared, with the serials after so many.
 fn declares_all(book: &mut Book, made: u16) -> bool {
-    for number in 1..17u8 {
-        if !is_serial(
-            book.declare(number, 1, 31),
-            made.saturating_add(u16::from(number)),
-        ) {
-            return false;
-        }
-    }
-    true
+    (1..17u8).all(|number| {
+        let serial = made.saturating_add(u16::from(number));
+        is_serial(book.declare(number, 1, 31), serial)
+    })
 }
 
 fn withdraws_all(book: &mut Book) -> bool {
-    for number in 1..17u8 {
-        if book.withdraw(number).is_err() {
-            return false;
-        }
-    }
-    true
+    (1..17u8).all(|number| book.withdraw(number).is_ok())
 }
 
 // Whether a declared number gets 8, and a free one, number 6, gets 10 unless something is out of range.
@@ -88,12 +72,7 @@ fn is_used_up(book: &mut Book) -> bool {
 
 // Whether no number can be declared any more.
 fn has_no_serial(book: &mut Book) -> bool {
-    for number in 1..17u8 {
-        if !is_refused(book.declare(number, 1, 1), 10, 0) {
-            return false;
-        }
-    }
-    true
+    (1..17u8).all(|number| is_refused(book.declare(number, 1, 1), 10, 0))
 }
 
 #[test]

@@ -6,11 +6,11 @@ use book::term::Term;
 use energy::metered::Metered;
 use energy::source::EnergySource;
 use foundation::fault::Fault;
-use foundation::interval::WeekInterval;
 use ledger::posting::Ledger;
 use sampling::factors::Factors;
 use sampling::state::Sampling;
 use std::alloc::Global;
+use std::array;
 use std::process::Abort;
 use std::test::*;
 
@@ -133,17 +133,11 @@ pub(crate) fn is_fault(fault: Fault, number: u8, layer: u8, place: usize) -> boo
 
 // Whether the book refuses with this number and place.
 pub(crate) fn is_refused<T: Drop>(answer: Result<T, Fault>, number: u8, place: usize) -> bool {
-    match answer {
-        Ok(_) => false,
-        Err(fault) => is_fault(fault, number, 3, place),
-    }
+    answer.is_err_and(|fault| is_fault(fault, number, 3, place))
 }
 
 pub(crate) fn is_serial(answer: Result<u16, Fault>, serial: u16) -> bool {
-    match answer {
-        Ok(answered) => answered == serial,
-        Err(_) => false,
-    }
+    answer == Ok(serial)
 }
 
 pub(crate) fn is_answer(
@@ -152,29 +146,19 @@ pub(crate) fn is_answer(
     crmpf: u32,
     lines: u32,
 ) -> bool {
-    match answer {
-        Ok(figures) => figures.0 == cmpf && figures.1 == crmpf && figures.2 == lines,
-        Err(_) => false,
-    }
+    answer == Ok((cmpf, crmpf, lines))
 }
 
 // Terms of a region, a service and an amount, and terms of 0 after them.
 fn twelve(terms: &[(u8, u8, u16)]) -> [Term; 12] {
-    let mut twelve = [Term {
-        region: 0,
-        service: 1,
-        amount: 0,
-    }; 12];
-    for (place, term) in terms.iter().enumerate() {
-        if place < 12 {
-            twelve[place] = Term {
-                region: term.0,
-                service: term.1,
-                amount: term.2,
-            };
+    array::from_fn(|place| {
+        let (region, service, amount) = *terms.get(place).unwrap_or(&(0, 1, 0));
+        Term {
+            region,
+            service,
+            amount,
         }
-    }
-    twelve
+    })
 }
 
 // A claim asked of a book, with at most 12 terms.
@@ -187,10 +171,7 @@ pub(crate) fn ask(
     part: u64,
 ) -> Result<Claim, Fault> {
     let made = twelve(terms);
-    if terms.len() > 12 {
-        return book.claim(number, interval, value, &made, part);
-    }
-    book.claim(number, interval, value, &made[0..terms.len()], part)
+    book.claim(number, interval, value, &made[..terms.len().min(12)], part)
 }
 
 // The same, where the claim is left open.
@@ -207,24 +188,17 @@ pub(crate) fn ask_open(
 }
 
 fn amount_in(amounts: &[(u16, u16, i64)], party: u16, serial: u16) -> i64 {
-    for amount in amounts {
-        if amount.0 == party && amount.1 == serial {
-            return amount.2;
-        }
-    }
-    0
+    amounts
+        .iter()
+        .find(|amount| amount.0 == party && amount.1 == serial)
+        .map_or(0, |amount| amount.2)
 }
 
 // Whether these are the amounts by party and serial, and all others are 0.
 pub(crate) fn has<L: Ledger>(ledger: &L, amounts: &[(u16, u16, i64)]) -> bool {
-    for party in 0..64 {
-        for serial in 1..33 {
-            if ledger.amount(party, serial) != amount_in(amounts, party, serial) {
-                return false;
-            }
-        }
-    }
-    true
+    (0..64).all(|party| {
+        (1..33).all(|serial| ledger.amount(party, serial) == amount_in(amounts, party, serial))
+    })
 }
 
 pub(crate) fn is_figures(
@@ -240,20 +214,6 @@ pub(crate) fn is_figures(
         && claim.part == part
 }
 
-fn kind_number(kind: Kind) -> u8 {
-    match kind {
-        Kind::Regulation => 1,
-        Kind::Delayed => 2,
-    }
-}
-
-fn number_of(interval: Option<WeekInterval>) -> Option<u16> {
-    match interval {
-        Some(interval) => Some(interval.number()),
-        None => None,
-    }
-}
-
 // Whether a number stands for a declaration with these figures.
 pub(crate) fn is_declared(
     book: &Book,
@@ -263,21 +223,18 @@ pub(crate) fn is_declared(
     regions: u8,
     last: Option<u16>,
 ) -> bool {
-    let Some(declaration) = book.declaration(number) else {
-        return false;
-    };
-    declaration.serial == serial
-        && kind_number(declaration.kind) == kind
-        && declaration.regions == regions
-        && number_of(declaration.last) == last
+    book.declaration(number).is_some_and(|declaration| {
+        declaration.serial == serial
+            && Kind::try_from(kind) == Ok(declaration.kind)
+            && declaration.regions == regions
+            && declaration.last.map(|interval| interval.number()) == last
+    })
 }
 
 // Whether a number has an open claim with these figures.
 pub(crate) fn is_claimed(book: &Book, number: u8, serial: u16, interval: u16, part: u64) -> bool {
-    match book.open_claim(number) {
-        None => false,
-        Some(claim) => is_figures(claim, number, serial, interval, part),
-    }
+    book.open_claim(number)
+        .is_some_and(|claim| is_figures(claim, number, serial, interval, part))
 }
 
 pub(crate) fn is_free(book: &Book, number: u8) -> bool {

@@ -10,12 +10,8 @@ use std::test::*;
 
 // Whether these are the totals of serials 1 to 4, and all others are 0, also those of no serial.
 fn has_totals<L: Ledger>(book: &Book, ledger: &L, totals: [i64; 4]) -> bool {
-    for serial in 5..40 {
-        if book.total(ledger, serial) != 0 {
-            return false;
-        }
-    }
-    book.total(ledger, 0) == 0
+    (5..40).all(|serial| book.total(ledger, serial) == 0)
+        && book.total(ledger, 0) == 0
         && book.total(ledger, 65_535) == 0
         && book.total(ledger, 1) == totals[0]
         && book.total(ledger, 2) == totals[1]

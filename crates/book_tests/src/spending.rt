@@ -2,10 +2,10 @@
 use crate::begun::{begin, is_begun};
 use crate::made::{
     Case, WORKED, WORKED_TERMS, ask, ask_open, has, is_answer, is_claimed, is_declared, is_fault,
-    is_figures, is_refused,
+    is_refused,
 };
 use book::book::Book;
-use book::claim::{Claim, OpenClaim, Returned};
+use book::claim::{Claim, Returned};
 use energy::figures::Figures;
 use energy::source::EnergySource;
 use foundation::fault::Fault;
@@ -56,16 +56,6 @@ fn foreign(earlier: u8, number: u8, interval: u16, part: u64) -> Result<Claim, F
     ask(&mut other, number, interval, 300, &WORKED_TERMS, part)
 }
 
-fn is_same(claim: OpenClaim, other: OpenClaim) -> bool {
-    is_figures(
-        claim,
-        other.number,
-        other.serial,
-        other.interval.number(),
-        other.part,
-    )
-}
-
 // The claim that a refused recovery gives back, where it is refused so.
 fn given_back<E: EnergySource, L: Ledger>(
     claim: Claim,
@@ -81,7 +71,7 @@ fn given_back<E: EnergySource, L: Ledger>(
         Ok(_) => None,
         Err(returned) => {
             let Returned { fault, claim } = returned;
-            if is_fault(fault, number, layer, 0) && is_same(claim.figures(), before) {
+            if is_fault(fault, number, layer, 0) && claim.figures() == before {
                 return Some(claim);
             }
             let _ = claim.leave_open();
@@ -120,14 +110,10 @@ fn is_foreign<E: EnergySource, L: Ledger>(
 
 // Whether a book as it is begun refuses them all, and stays as it was.
 fn refuses_foreign<L: Ledger>(case: &Case, book: &mut Book, ledger: &mut L) -> bool {
-    for figures in NOT_OPEN {
-        if !is_foreign(figures, book, &case.factors, &case.source, ledger)
-            || !is_begun(&*book, &*ledger)
-        {
-            return false;
-        }
-    }
-    true
+    NOT_OPEN.iter().all(|figures| {
+        is_foreign(*figures, book, &case.factors, &case.source, ledger)
+            && is_begun(&*book, &*ledger)
+    })
 }
 
 // Whether it does so with this energy and ledger.
@@ -137,12 +123,7 @@ fn refuses_first<E: EnergySource, L: Ledger>(
     source: &E,
     ledger: &mut L,
 ) -> bool {
-    for figures in NOT_OPEN {
-        if !is_foreign(figures, book, &case.factors, source, ledger) {
-            return false;
-        }
-    }
-    true
+    NOT_OPEN.iter().all(|figures| is_foreign(*figures, book, &case.factors, source, ledger))
 }
 
 // The worked claim, with one term, under number 1, which is declared with serial 1.
@@ -209,12 +190,7 @@ fn is_too_short(case: &Case, bytes: &mut [u8], left: u32) -> bool {
 }
 
 fn is_untouched(bytes: &[u8]) -> bool {
-    for byte in bytes {
-        if *byte != 0xaa {
-            return false;
-        }
-    }
-    true
+    bytes.iter().all(|byte| *byte == 0xaa)
 }
 
 // Whether a claim of another book with the open one's figures is recovered as it, and only once.
@@ -264,14 +240,9 @@ fn is_second(case: &Case, book: &mut Book, table: &mut Table) -> bool {
 
 // Whether the amounts of two ledgers are the same.
 fn agree<A: Ledger, B: Ledger>(one: &A, other: &B) -> bool {
-    for party in 0..65 {
-        for serial in 0..34 {
-            if one.amount(party, serial) != other.amount(party, serial) {
-                return false;
-            }
-        }
-    }
-    true
+    (0..65).all(|party| {
+        (0..34).all(|serial| one.amount(party, serial) == other.amount(party, serial))
+    })
 }
 
 #[test]

@@ -2,7 +2,7 @@
 use Rattle.std.proofs.Common.{◌≡◌, ℕ, zero, suc, ◌+◌, ◌<◌, ◌≤◌, Bool, true, false, cond, ◌&&◌, ltb, sym, refl, ap, ◌∙◌, arith}
 use Rattle.std.proofs.lemmas.Bool.Decides.{nat_tests}
 use Rattle.foundation.specs.Sums.{sum_to, listed}
-use Rattle.foundation.proofs.Sums.{sum_to_none, sum_to_more, sum_to_eq, sum_to_le, sum_to_add, sum_to_zero}
+use Rattle.foundation.proofs.Sums.{sum_to_none, sum_to_more, sum_to_eq, sum_to_le, sum_to_add, sum_to_one_le, sum_to_zero}
 use Rattle.sampling.specs.declared.factors.Factors.{Factors}
 use Rattle.sampling.specs.Factors.{factor_of, residual_of}
 use Rattle.energy.specs.Energy.{grand, in_region, member, within}
@@ -21,6 +21,9 @@ sum_to_swap (suc m) n f =
 
 pub all_rows : (f : ℕ → ℕ → ℕ) → sum_to 64 (λ p. sum_to 5 (f p)) ≡ grand f
 all_rows f = sum_to_swap 64 5 f ∙ sum_to_eq 5 (λ r. sum_to 64 (λ p. f p r)) (in_region f) (λ r l. sym (region_is f r)) ∙ sym (grand_is f)
+
+pub row_most : (f : ℕ → ℕ → ℕ) (p : ℕ) → p < 64 → sum_to 5 (f p) ≤ grand f
+row_most f p l = omega (arith, all_rows f, sum_to_one_le 64 (λ q. sum_to 5 (f q)) p l)
 
 cond_le : (t : Bool) (n : ℕ) → cond t n 0 ≤ n
 cond_le true n = omega arith

@@ -4,7 +4,7 @@ use Rattle.std.proofs.lemmas.Bool.{cases_lt, lt-ltb, le-ltb}
 use Rattle.foundation.specs.Division.{share}
 use Rattle.foundation.specs.Sums.{sum_to, listed}
 use Rattle.foundation.proofs.Shares.{share_eq}
-use Rattle.foundation.proofs.Sums.{sum_to_more, sum_to_eq}
+use Rattle.foundation.proofs.Sums.{sum_to_eq}
 use Rattle.sampling.specs.declared.factors.Factors.{Factors}
 use Rattle.energy.specs.declared.figures.Figures.{Figures}
 use Rattle.energy.specs.Table.{figure_of}

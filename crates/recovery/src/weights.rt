@@ -35,11 +35,9 @@ fn energy_in<E: EnergySource>(source: &E, party: u16) -> u64
     requires { party < 64 }
     ensures { result ≡ sum_to 5 (E.EnergySource.kwh source.now party) }
 {
-    let mut sum = 0;
-    for region in 0..REGIONS {
-        sum += u64::from(source.energy(party, region));
-    }
-    sum
+    (0..REGIONS)
+        .map(|region| u64::from(source.energy(party, region)))
+        .sum()
 }
 
 // By party, its energy in the regions of a set.

@@ -75,11 +75,11 @@ pub(crate) fn metered_without(
     left_out: u16,
 ) -> Result<Metered, AllocError> {
     let mut bytes = Vec::new(heap);
-    for record in records {
-        let [high, low] = record.0.to_be_bytes();
-        let [k3, k2, k1, k0] = record.2.to_be_bytes();
-        if record.0 != left_out {
-            bytes.extend_from_slice(&[high, low, record.1, 0, k3, k2, k1, k0])?;
+    for (party, region, kwh) in records {
+        let [high, low] = party.to_be_bytes();
+        let [k3, k2, k1, k0] = kwh.to_be_bytes();
+        if *party != left_out {
+            bytes.extend_from_slice(&[high, low, *region, 0, k3, k2, k1, k0])?;
         }
     }
     Ok(Metered::new(bytes.as_slice()))
@@ -118,12 +118,9 @@ impl Case {
 }
 
 pub(crate) fn is_refused<T: Drop>(answer: Result<T, Fault>, number: u8, layer: u8) -> bool {
-    match answer {
-        Ok(_) => false,
-        Err(fault) => fault.refusal.number() == number
-            && fault.layer.number() == layer
-            && fault.place == 0,
-    }
+    answer.is_err_and(|fault| {
+        fault.refusal.number() == number && fault.layer.number() == layer && fault.place == 0
+    })
 }
 
 pub(crate) fn is_answer(
@@ -132,38 +129,26 @@ pub(crate) fn is_answer(
     crmpf: u32,
     lines: u32,
 ) -> bool {
-    match answer {
-        Ok(figures) => figures.0 == cmpf && figures.1 == crmpf && figures.2 == lines,
-        Err(_) => false,
-    }
+    answer == Ok((cmpf, crmpf, lines))
 }
 
 fn amount_in(amounts: &[(u16, u16, i64)], party: u16, serial: u16) -> i64 {
-    for amount in amounts {
-        if amount.0 == party && amount.1 == serial {
-            return amount.2;
-        }
-    }
-    0
+    amounts
+        .iter()
+        .find(|amount| amount.0 == party && amount.1 == serial)
+        .map_or(0, |amount| amount.2)
 }
 
 // Whether these are the amounts by party and serial, and all others are 0.
 pub(crate) fn has<L: Ledger>(ledger: &L, amounts: &[(u16, u16, i64)]) -> bool {
-    for party in 0..64 {
-        for serial in 1..33 {
-            if ledger.amount(party, serial) != amount_in(amounts, party, serial) {
-                return false;
-            }
-        }
-    }
-    true
+    (0..64).all(|party| {
+        (1..33).all(|serial| ledger.amount(party, serial) == amount_in(amounts, party, serial))
+    })
 }
 
 // What all parties owe under a serial.
 pub(crate) fn sum<L: Ledger>(ledger: &L, serial: u16) -> i64 {
-    let mut sum = 0i64;
-    for party in 0..64 {
-        sum = sum.saturating_add(ledger.amount(party, serial));
-    }
-    sum
+    (0..64).fold(0i64, |sum, party| {
+        sum.saturating_add(ledger.amount(party, serial))
+    })
 }

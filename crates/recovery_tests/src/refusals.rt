@@ -31,22 +31,18 @@ const REFUSED: [(u64, u8, u16, u8); 16] = [
 ];
 
 fn refuses<L: Ledger>(case: &Case, ledger: &mut L) -> bool {
-    for (part, regions, serial, number) in REFUSED {
-        if !is_refused(case.recover(part, regions, serial, ledger), number, 3) {
-            return false;
-        }
-    }
-    true
+    REFUSED.iter().all(|(part, regions, serial, number)| {
+        is_refused(case.recover(*part, *regions, *serial, ledger), *number, 3)
+    })
 }
 
 // A split has no serial.
 fn refuses_to_split(case: &Case) -> bool {
-    for (part, regions, serial, number) in REFUSED {
-        if serial == 1 && !is_refused(case.split(part, regions), number, 3) {
-            return false;
-        }
-    }
-    true
+    REFUSED.iter().filter(|refused| refused.2 == 1).all(|(part, regions, _, number)| is_refused(
+        case.split(*part, *regions),
+        *number,
+        3,
+    ))
 }
 
 // Whether all refusals leave a ledger of which these are the amounts.
@@ -75,12 +71,7 @@ fn has_room_for_two(case: &Case, bytes: &mut [u8]) -> bool {
 }
 
 fn is_untouched(bytes: &[u8]) -> bool {
-    for byte in bytes {
-        if *byte != 0xaa {
-            return false;
-        }
-    }
-    true
+    bytes.iter().all(|byte| *byte == 0xaa)
 }
 
 // Whether 5 ticks over region 0 find nobody to pay.

@@ -65,27 +65,23 @@ fn adds_up<L: Ledger>(case: &Case, ledger: &mut L) -> bool {
 
 // Whether the lines under serial 1 are a split's shares, each below 0.
 fn is_posted<L: Ledger>(split: &Split, ledger: &L) -> bool {
-    for party in 0..66 {
+    (0..66).all(|party| {
         let amount = ledger.amount(party, 1);
-        if amount > 0 || amount.unsigned_abs() != split.share(party) {
-            return false;
-        }
-    }
-    true
+        amount <= 0 && amount.unsigned_abs() == split.share(party)
+    })
 }
 
 // Whether the worked part is split, and recovered, with these figures, and the lines are the shares.
 fn comes_to(case: &Case, cmpf: u32, crmpf: u32, lines: u32, amounts: &[(u16, u16, i64)]) -> bool {
-    let Ok(split) = case.split(360_000, 3) else {
-        return false;
-    };
     let mut table = Table::new();
-    split.cmpf() == cmpf
-        && split.crmpf() == crmpf
-        && split.lines() == lines
-        && is_answer(case.recover(360_000, 3, 1, &mut table), cmpf, crmpf, lines)
-        && is_posted(&split, &table)
+    is_answer(case.recover(360_000, 3, 1, &mut table), cmpf, crmpf, lines)
         && has(&table, amounts)
+        && case.split(360_000, 3).is_ok_and(|split| {
+            split.cmpf() == cmpf
+                && split.crmpf() == crmpf
+                && split.lines() == lines
+                && is_posted(&split, &table)
+        })
 }
 
 // Whether a part over regions 0 and 1 has so many lines, and these.
@@ -106,12 +102,7 @@ fn is_owed_over(case: &Case, regions: u8, part: u64, owed: i64) -> bool {
 }
 
 fn is_owed(case: &Case, part: u64, owed: i64) -> bool {
-    for regions in 1..32 {
-        if !is_owed_over(case, regions, part, owed) {
-            return false;
-        }
-    }
-    true
+    (1..32).all(|regions| is_owed_over(case, regions, part, owed))
 }
 
 // A recovery from an island of regions 0 and 1.
@@ -132,13 +123,12 @@ fn is_an_island(case: &Case, inside: u8, outside: u8) -> bool {
 }
 
 fn is_without_6(case: &Case) -> bool {
-    let Ok(split) = case.split(360_000, 3) else {
-        return false;
-    };
-    split.energy(6) == 1_000
-        && split.share(6) == 0
-        && split.residual_energy() == 50
-        && split.residual_part() == 43_903
+    case.split(360_000, 3).is_ok_and(|split| {
+        split.energy(6) == 1_000
+            && split.share(6) == 0
+            && split.residual_energy() == 50
+            && split.residual_part() == 43_903
+    })
 }
 
 #[test]

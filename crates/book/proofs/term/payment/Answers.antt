@@ -2,11 +2,6 @@ use Rattle.std.proofs.Common.{◌*◌, ◌≤◌, ap, ◌∙◌, mul-le-mul, ari
 use Rattle.book.specs.Calls.{payment}
 use Rattle.book.proofs.term.payment.Goals as goal
 
-pub overflow_mul-result : goal.overflow_mul-result
-overflow_mul-result c =
-    let value : c.from.result ≤ 4294967295 = omega arith in
-    omega (arith, mul-le-mul value c.enabled.ensures.small)
-
 pub returns : goal.returns
 unfolding payment
 returns c = ap (λ v. v * c.enabled.result) c.from.ensures ∙ ap (λ z. c.args.value * z) c.enabled.ensures.value

@@ -1,4 +1,4 @@
-use Rattle.std.proofs.Common.{◌≡◌, ℕ, ◌<◌, cond, ◌&&◌, ltb, rules}
+use Rattle.std.proofs.Common.{◌≡◌, ℕ, cond, ◌&&◌, ltb, rules}
 use Rattle.foundation.specs.Sums.{listed}
 use Rattle.foundation.proofs.Arrays.{made_at}
 use Rattle.sampling.specs.Factors.{factor_of, is_factored}
