@@ -5,6 +5,7 @@ use crate::counted::Counted;
 use crate::failure::Failure;
 use crate::sheet::{Line, Step};
 use book::claim::OpenClaim;
+use book::state::Kind;
 use ledger::posting::Ledger;
 use session::call::{Answer, Call};
 use session::run::run;
@@ -111,8 +112,10 @@ impl Run {
         else {
             return Ok(());
         };
-        let account = Account::opened(number, kind, regions);
-        self.accounts.insert(serial, account)?;
+        if let Ok(kind) = Kind::try_from(kind) {
+            let account = Account::opened(number, kind, regions);
+            self.accounts.insert(serial, account)?;
+        }
         self.say(
             line,
             format_args!("number {number} declared: serial {serial}"),
