@@ -1,13 +1,12 @@
 -- Terms that words write.
-use Rattle.std.proofs.Common.{◌≡◌, ℕ, zero, suc, ◌+◌, ◌-◌, ◌*◌, ◌<◌, ◌≤◌, min, List, [], ◌∷◌, ◌++◌, length, get_or, take, drop, set, replicate, Some, None, Err, sym, refl, ap, ◌∙◌, add-one, arith, length-drop, Bor}
-use Rattle.std.proofs.lemmas.List.{append-nil, append_assoc, drop_all, drop-drop, drop-map, take_all, take-map}
+use Rattle.std.proofs.Common.{◌≡◌, ℕ, zero, suc, ◌+◌, ◌*◌, ◌<◌, ◌≤◌, List, [], ◌∷◌, ◌++◌, length, get_or, take, drop, Err, sym, refl, ap, ◌∙◌, arith, length-drop, Bor}
+use Rattle.std.proofs.lemmas.List.{append-nil, append_assoc, drop_all, drop-drop, drop-map, take-map}
 use Rattle.std.specs.Simd.{first_chunks}
 use Rattle.foundation.proofs.Chunks.{chunk_is}
 use Rattle.book.specs.declared.term.Term.{Term}
 use Rattle.settle.specs.declared.sheet.NoStep.{NoStep}
 use Rattle.settle.specs.declared.sheet.NoStep.TheVariants.{Unknown, NoMemory}
 use Rattle.settle.specs.Sheet.{texts, Parsed}
-use Rattle.settle.specs.Numbers.{Reads}
 use Rattle.settle.specs.Terms.{Heading, Termed}
 
 pub heading_long : (ws : List (List ℕ)) (n i v p : ℕ) → Heading ws n i v p → length ws ≡ 4
