@@ -1,6 +1,6 @@
 -- How large the figures of a split are, and what its exact shares are.
 use Rattle.std.proofs.Common.{◌≡◌, ℕ, ◌+◌, ◌*◌, ◌<◌, ◌≤◌, true, false, cond, ltb, sym, ap, ◌∙◌, mul-le-mul_right, mul-le-mul_left, arith, lt-ltb}
-use Rattle.foundation.specs.Sums.{sum_to, listed}
+use Rattle.foundation.specs.Sums.{listed}
 use Rattle.foundation.proofs.Sums.{sum_to_eq, sum_to_one_le}
 use Rattle.sampling.specs.declared.factors.Factors.{Factors}
 use Rattle.recovery.specs.declared.split.Split.{Split}

@@ -1,14 +1,13 @@
 -- Terms that words write.
-use Rattle.std.proofs.Common.{◌≡◌, ℕ, zero, suc, ◌+◌, ◌-◌, ◌*◌, ◌<◌, ◌≤◌, min, List, [], ◌∷◌, ◌++◌, length, get_or, take, drop, set, replicate, Some, None, Err, sym, refl, ap, ◌∙◌, add-one, arith, length-drop, Bor}
-use Rattle.std.proofs.lemmas.List.{append-nil, append_assoc, drop_all, drop-drop, drop-map, take_all, take-map}
+use Rattle.std.proofs.Common.{◌≡◌, ℕ, zero, suc, ◌+◌, ◌*◌, ◌<◌, ◌≤◌, List, [], ◌∷◌, ◌++◌, length, get_or, take, drop, Err, sym, refl, ap, ◌∙◌, arith, length-drop, Bor}
+use Rattle.std.proofs.lemmas.List.{append-nil, append_assoc, drop_all, drop-drop, drop-map, take-map}
 use Rattle.std.specs.Simd.{first_chunks}
 use Rattle.foundation.proofs.Chunks.{chunk_is}
 use Rattle.book.specs.declared.term.Term.{Term}
 use Rattle.settle.specs.declared.sheet.NoStep.{NoStep}
 use Rattle.settle.specs.declared.sheet.NoStep.TheVariants.{Unknown, NoMemory}
 use Rattle.settle.specs.Sheet.{texts, Parsed}
-use Rattle.settle.specs.Numbers.{Reads}
-use Rattle.settle.specs.Terms.{Heading, Termed, first_terms, no_term}
+use Rattle.settle.specs.Terms.{Heading, Termed}
 
 pub heading_long : (ws : List (List ℕ)) (n i v p : ℕ) → Heading ws n i v p → length ws ≡ 4
 heading_long [] n i v p h = elim h [ ]
@@ -107,26 +106,3 @@ module _ (words three : List (Bor (List ℕ))) (i : ℕ) (same : texts three ≡
 
   pub read_term : (j : ℕ) (t : Term) → j ≡ i + 3 → Termed (texts three) (t ∷ []) → Begun (texts words) j (ts ++ (t ∷ []))
   read_term j t e one = begun_more (texts words) i ts b j t e inside (rw same at one)
-
--- the term at i after those before it
-put_more : (ts : List Term) (i m : ℕ) (d : Term) → i < length ts → set (take i ts ++ replicate (suc m) no_term) i (get_or ts i d) ≡ take (suc i) ts ++ replicate m no_term
-put_more [] i m d l = absurd (omega arith)
-put_more (t ∷ ts) zero m d l = refl
-put_more (t ∷ ts) (suc i) m d l = ap {B = List Term} (λ (r : List Term). t ∷ r) (put_more ts i m d (omega arith))
-
-pub put_next : (ts : List Term) (i : ℕ) (d : Term) → i < 11 → i < length ts → set (take i ts ++ replicate (11 - i) no_term) i (get_or ts i d) ≡ take (i + 1) ts ++ replicate (11 - (i + 1)) no_term
-put_next ts i d few l =
-    let left : 11 - i ≡ suc (11 - suc i) = omega arith in
-    rw (left, add-one) (put_more ts i (11 - suc i) d l)
-
-take_fewer : (ts : List Term) (i n : ℕ) → i ≡ min (length ts) n → take i ts ≡ take n ts
-take_fewer [] i n e = let none : i ≡ 0 = omega arith in ap (λ m. take m []) none ∙ sym (take_all n [] (omega arith))
-take_fewer (t ∷ ts) zero zero e = refl
-take_fewer (t ∷ ts) zero (suc n) e = absurd (omega arith)
-take_fewer (t ∷ ts) (suc i) zero e = absurd (omega arith)
-take_fewer (t ∷ ts) (suc i) (suc n) e = ap {B = List Term} (λ (r : List Term). t ∷ r) (take_fewer ts i n (omega arith))
-
-pub put_all : (ts : List Term) (i : ℕ) → i ≡ min (length ts) 11 → take i ts ++ replicate (11 - i) no_term ≡ first_terms ts
-put_all ts i e =
-    let left : 11 - i ≡ 11 - length ts = omega arith in
-    rw (take_fewer ts i 11 e, left)

@@ -6,7 +6,6 @@ use Rattle.settle.specs.declared.sheet.NoStep.TheVariants.{Unknown, NoMemory}
 use Rattle.session.specs.declared.call.Call.TheVariants as call
 use Rattle.settle.specs.declared.sheet.Step.{Step}
 use Rattle.settle.specs.declared.sheet.Step.TheVariants as step
-use Rattle.settle.specs.Numbers.{Numbers}
 use Rattle.settle.specs.Sheet.{Parsed, ParsedAs, texts, Asks, AsksAll}
 use Rattle.settle.specs.Terms.{Heading}
 

@@ -1,7 +1,8 @@
 -- What the words of a claim write.
-use Rattle.std.specs.Prelude.{◌≡◌, ℕ, ◌-◌, min, List, [], ◌∷◌, ◌++◌, length, take, replicate, Some}
+use Rattle.std.specs.Prelude.{◌≡◌, ℕ, min, List, [], ◌∷◌, length, Some}
 use Rattle.book.specs.declared.term.Term.{Term}
 use Rattle.session.specs.declared.call.Terms.{Terms}
+use Rattle.session.specs.Terms.{first_terms}
 use Rattle.settle.specs.Numbers.{Reads}
 
 -- four words write the number, the week interval, the marginal value and the part
@@ -21,13 +22,6 @@ Termed (a ∷ []) ts = ⊥
 Termed (a ∷ b ∷ []) ts = ⊥
 Termed (a ∷ b ∷ c ∷ ws) [] = ⊥
 Termed (a ∷ b ∷ c ∷ ws) (t ∷ ts) = (Reads 255 a (Some t.region) × (Reads 255 b (Some t.service) × Reads 65535 c (Some t.amount))) × Termed ws ts
-
-abbrev pub no_term : Term
-no_term = record { region = 0; service = 0; amount = 0 }
-
--- the first eleven terms, and 0 in all others
-abbrev pub first_terms : List Term → List Term
-first_terms ts = take 11 ts ++ replicate (11 - length ts) no_term
 
 -- the terms are the first of those that the words write
 unfoldable pub ClaimTerms : List (List ℕ) → Terms → Type 0

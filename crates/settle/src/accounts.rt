@@ -1,13 +1,14 @@
 // What was claimed under each declaration over the whole run, and what became of it.
 ghost use Rattle.std.specs.Prelude.{◌≡◌, ◌+◌, ◌-◌, ◌^◌, min, ◌&&◌, pos, ◌==◌, int_le, unsigned_abs};
 
+use book::state::Kind;
 use std::num::Saturating;
 
 // Each sum is of parts, in ticks.
 #[derive(Clone, Copy)]
 pub(crate) struct Account {
     pub(crate) number: u8,
-    pub(crate) kind: u8,
+    pub(crate) kind: Kind,
     pub(crate) regions: u8,
     pub(crate) claimed: Saturating<u64>,
     pub(crate) recovered: Saturating<u64>,
@@ -15,7 +16,7 @@ pub(crate) struct Account {
 }
 
 impl Account {
-    pub(crate) fn opened(number: u8, kind: u8, regions: u8) -> Account {
+    pub(crate) fn opened(number: u8, kind: Kind, regions: u8) -> Account {
         Account {
             number,
             kind,

@@ -15,8 +15,6 @@ use std::num::Saturating;
 
 const NUMBERS: u8 = 16;
 
-const REGULATION: u8 = 1;
-
 fn verdict(agree: bool) -> &'static str {
     if agree {
         "both sides agree"
@@ -38,11 +36,7 @@ fn open_under(open: &[OpenClaim], serial: u16) -> Saturating<u64> {
 
 fn heading(out: &mut impl Write, serial: u16, account: Account) -> io::Result<()> {
     let number = account.number;
-    let kind = if account.kind == REGULATION {
-        "regulation"
-    } else {
-        "delayed"
-    };
+    let kind = account.kind;
     write!(out, "Serial {serial}: number {number}, {kind}, regions")?;
     for region in 0..REGIONS {
         if in_set(account.regions, region) {

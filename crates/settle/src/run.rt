@@ -139,10 +139,10 @@ impl Run {
 
     fn register_file(&mut self, rt: &HostRuntime, line: usize, name: &str) -> Result<(), Failure> {
         let mut owners = [0u8; OWNERS_READ];
-        match self.read(rt, name, &mut owners) {
-            Ok(count) => self.register(line, &owners[0..count]),
-            Err(error) => Err(unusable(rt.alloc(), line, name, error)),
-        }
+        let count = self
+            .read(rt, name, &mut owners)
+            .map_err(|error| unusable(rt.alloc(), line, name, error))?;
+        self.register(line, &owners[..count])
     }
 
     // Reads of a file what the buffer has room for, and says how many bytes that is.
@@ -176,10 +176,10 @@ impl Run {
 
     fn offer_file(&mut self, rt: &HostRuntime, line: usize, name: &str) -> Result<(), Failure> {
         let heap = rt.alloc();
-        match self.open(rt, name) {
-            Ok(file) => self.offer_all(heap, line, name, file),
-            Err(error) => Err(unusable(heap, line, name, error)),
-        }
+        let file = self
+            .open(rt, name)
+            .map_err(|error| unusable(heap, line, name, error))?;
+        self.offer_all(heap, line, name, file)
     }
 
     // Offers what is left of a file, piece by piece.
@@ -195,10 +195,9 @@ impl Run {
         let mut used = 0u64;
         let mut refused = 0u64;
         for interval in 0..u64::MAX {
-            let filled = match fill(&mut file, buffer.as_mut_slice()) {
-                Ok(filled) => filled,
-                Err(error) => return Err(unusable(heap, line, name, error)),
-            };
+            let filled = fill(&mut file, buffer.as_mut_slice()).map_err(|error| unusable(
+                heap, line, name, error,
+            ))?;
             if filled == 0 {
                 break;
             }

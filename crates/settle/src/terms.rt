@@ -1,12 +1,12 @@
 // The terms of a claim, as words of a run sheet write them.
-ghost use Rattle.std.specs.Prelude.{◌≡◌, min, [], ◌∷◌, length};
+ghost use Rattle.std.specs.Prelude.{[], ◌∷◌};
 ghost use Rattle.settle.specs.Sheet.{texts, Parsed, ParsedAs};
-ghost use Rattle.settle.specs.Terms.{Heading, Termed, ClaimTerms, first_terms};
+ghost use Rattle.settle.specs.Terms.{Heading, Termed, ClaimTerms};
 
 use crate::numbers::number;
 use crate::sheet::NoStep;
 use book::term::Term;
-use session::call::{TERMS, Terms};
+use session::call::Terms;
 use std::alloc::Global;
 
 // The words that write a term.
@@ -54,27 +54,10 @@ fn all(heap: Global, words: &[&str]) -> Result<Vec<Term>, NoStep>
     Ok(terms)
 }
 
-// As many of the terms as a call holds.
-fn first(terms: &[Term]) -> Terms
-    ensures items { result.items ≡ first_terms terms.now }
-    ensures count { result.count ≡ min (length terms.now) 11 }
-{
-    let nothing = Term {
-        region: 0,
-        service: 0,
-        amount: 0,
-    };
-    let count = terms.len().min(TERMS);
-    let mut items = [nothing; 11];
-    for k in 0..count {
-        items[k] = terms[k];
-    }
-    Terms { items, count }
-}
-
+// The first of the terms, as many as a call holds.
 pub(crate) fn terms(heap: Global, words: &[&str]) -> Result<Terms, NoStep>
     ensures { Parsed (λ terms. ClaimTerms (texts words.now) terms) result }
 {
     let terms = all(heap, words)?;
-    Ok(first(terms.as_slice()))
+    Ok(Terms::first_of(terms.as_slice()))
 }

@@ -5,10 +5,12 @@ use crate::counted::Counted;
 use crate::failure::Failure;
 use crate::sheet::{Line, Step};
 use book::claim::OpenClaim;
+use book::state::Kind;
 use ledger::posting::Ledger;
 use session::call::{Answer, Call};
 use session::run::run;
 use std::alloc::Global;
+use std::fmt;
 
 // Calls that follow one another in the sheet, and their lines: two vectors, since `run` takes the calls as one slice.
 #[derive(Drop)]
@@ -50,6 +52,19 @@ fn number_in(call: Call) -> u8 {
         | Call::Claim { number, .. }
         | Call::Recover { number }
         | Call::HandBack { number } => number,
+    }
+}
+
+// What a line tells of a claim.
+#[derive(Clone, Copy)]
+struct Told(OpenClaim);
+
+impl fmt::Display for Told {
+    fn fmt<W: fmt::Write>(&self, f: &mut fmt::Formatter<W>) -> fmt::Result {
+        let serial = self.0.serial;
+        let interval = self.0.interval.number();
+        let part = self.0.part;
+        write!(f, "serial {serial}, interval {interval}, {part} ticks")
     }
 }
 
@@ -111,8 +126,10 @@ impl Run {
         else {
             return Ok(());
         };
-        let account = Account::opened(number, kind, regions);
-        self.accounts.insert(serial, account)?;
+        if let Ok(kind) = Kind::try_from(kind) {
+            let account = Account::opened(number, kind, regions);
+            self.accounts.insert(serial, account)?;
+        }
         self.say(
             line,
             format_args!("number {number} declared: serial {serial}"),
@@ -120,19 +137,12 @@ impl Run {
     }
 
     fn claimed(&mut self, line: usize, claim: OpenClaim) -> Result<(), Failure> {
-        let number = claim.number;
-        let serial = claim.serial;
-        let interval = claim.interval.number();
-        let part = claim.part;
-        if let Some(account) = self.accounts.get_mut(&serial) {
-            account.claimed += part;
+        if let Some(account) = self.accounts.get_mut(&claim.serial) {
+            account.claimed += claim.part;
         }
-        self.say(
-            line,
-            format_args!(
-                "number {number} claimed: serial {serial}, interval {interval}, {part} ticks"
-            ),
-        )
+        let number = claim.number;
+        let told = Told(claim);
+        self.say(line, format_args!("number {number} claimed: {told}"))
     }
 
     fn recovered(
@@ -143,38 +153,27 @@ impl Run {
         crmpf: u32,
         lines: u32,
     ) -> Result<(), Failure> {
-        let number = claim.number;
-        let serial = claim.serial;
-        let interval = claim.interval.number();
-        let part = claim.part;
         let lines = Counted {
             count: lines as usize,
             what: "line",
         };
-        if let Some(account) = self.accounts.get_mut(&serial) {
-            account.recovered += part;
+        if let Some(account) = self.accounts.get_mut(&claim.serial) {
+            account.recovered += claim.part;
         }
+        let number = claim.number;
+        let told = Told(claim);
         self.say(
             line,
-            format_args!(
-                "number {number} recovered: serial {serial}, interval {interval}, {part} ticks, CMPF {cmpf}, CRMPF {crmpf}, {lines}"
-            ),
+            format_args!("number {number} recovered: {told}, CMPF {cmpf}, CRMPF {crmpf}, {lines}"),
         )
     }
 
     fn handed_back(&mut self, line: usize, claim: OpenClaim) -> Result<(), Failure> {
-        let number = claim.number;
-        let serial = claim.serial;
-        let interval = claim.interval.number();
-        let part = claim.part;
-        if let Some(account) = self.accounts.get_mut(&serial) {
-            account.handed_back += part;
+        if let Some(account) = self.accounts.get_mut(&claim.serial) {
+            account.handed_back += claim.part;
         }
-        self.say(
-            line,
-            format_args!(
-                "number {number} handed back: serial {serial}, interval {interval}, {part} ticks"
-            ),
-        )
+        let number = claim.number;
+        let told = Told(claim);
+        self.say(line, format_args!("number {number} handed back: {told}"))
     }
 }

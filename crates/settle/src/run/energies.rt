@@ -28,8 +28,9 @@ impl Run {
     ) -> Result<(), Failure> {
         let heap = rt.alloc();
         let mut buffer = vec![in heap; 0u8; METERED_READ]?;
+        // Not by `map_err`: past it the check runs out of memory before it finds the bound of the slice.
         match self.read(rt, name, buffer.as_mut_slice()) {
-            Ok(count) => self.meter(line, name, &buffer.as_slice()[0..count]),
+            Ok(count) => self.meter(line, name, &buffer.as_slice()[..count]),
             Err(error) => Err(unusable(heap, line, name, error)),
         }
     }

@@ -51,10 +51,8 @@ impl Run {
         let heap = rt.alloc();
         let mut bytes = vec![in heap; 0u8; journal_bytes(records)]?;
         let used = self.journaled(rt, lines, bytes.as_mut_slice())?;
-        match self.write(rt, name, &bytes.as_slice()[0..used]) {
-            Ok(()) => Ok(()),
-            Err(error) => Err(unusable(heap, line, name, error)),
-        }
+        self.write(rt, name, &bytes.as_slice()[..used])
+            .map_err(|error| unusable(heap, line, name, error))
     }
 
     // Carries out the lines with a journal over the bytes, and says how many of these it used.
@@ -136,8 +134,9 @@ impl Run {
     ) -> Result<(), Failure> {
         let heap = rt.alloc();
         let mut buffer = vec![in heap; 0u8; RECORDS_READ]?;
+        // Not by `map_err`: past it the check runs out of memory before it finds the bound of the slice.
         match self.read(rt, name, buffer.as_mut_slice()) {
-            Ok(count) => self.records(line, name, &buffer.as_slice()[0..count]),
+            Ok(count) => self.records(line, name, &buffer.as_slice()[..count]),
             Err(error) => Err(unusable(heap, line, name, error)),
         }
     }

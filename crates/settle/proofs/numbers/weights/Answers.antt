@@ -1,4 +1,4 @@
-use Rattle.std.proofs.Common.{◌≡◌, ◌<◌, ◌≤◌, length, take, ◌∙◌, refl, arith, rules, length-set, length-take}
+use Rattle.std.proofs.Common.{◌<◌, ◌≤◌, length, take, ◌∙◌, refl, arith, rules, length-set, length-take}
 use Rattle.std.proofs.lemmas.List.{take_all}
 use Rattle.std.proofs.lemmas.Result.{err_from_is_err_and}
 use Rattle.settle.specs.Numbers.{PartyWeights}

@@ -8,4 +8,4 @@ returns-in_err-terms c = search rules
 
 pub returns : goal.returns
 unfolding ClaimTerms
-returns c = (c.as_slice.result.now, (rw c.as_slice.ensures.value c.in_ok-terms.ensures, c.first.ensures.items, c.first.ensures.count))
+returns c = (c.as_slice.result.now, (rw c.as_slice.ensures.value c.in_ok-terms.ensures, c.first_of.ensures.items, c.first_of.ensures.count))
