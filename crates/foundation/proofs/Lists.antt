@@ -67,7 +67,7 @@ position_places p g xs d =
     (λ (l : position_or_len p xs < length xs).
     ap (λ b. option_map g (cond b (Some (position_or_len p xs)) None)) (lt-ltb (position_or_len p xs) (length xs) l)
     ∙ sym (first_to_at (length xs) (λ k. cond (p (slice_index_or xs k d)) (Some (g k)) None) (position_or_len p xs) (g (position_or_len p xs)) l
-        (λ i m. ap (λ b. cond b (Some (g i)) None) (fails_before_first p xs i d m)) (ap (λ b. cond b (Some (g (position_or_len p xs))) None) (passes_at_first p xs d l))))
+    (λ i m. ap (λ b. cond b (Some (g i)) None) (fails_before_first p xs i d m)) (ap (λ b. cond b (Some (g (position_or_len p xs))) None) (passes_at_first p xs d l))))
     (λ (l : length xs ≤ position_or_len p xs).
     ap (λ b. option_map g (cond b (Some (position_or_len p xs)) None)) (le-ltb (position_or_len p xs) (length xs) l)
     ∙ sym (first_to_all (length xs) (λ k. cond (p (slice_index_or xs k d)) (Some (g k)) None) (λ i m. ap (λ b. cond b (Some (g i)) None) (fails_before_first p xs i d (omega arith)))))
