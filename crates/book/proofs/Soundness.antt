@@ -14,7 +14,8 @@ use Rattle.book.specs.declared.state.State.TheVariants.{Free, Declared, Claimed}
 use Rattle.book.specs.declared.state.table.Event.TheVariants.{Claim, HandBack, Recover}
 use Rattle.book.specs.declared.state.table.Proposal.{Proposal}
 use Rattle.book.specs.Calls.{declared_in, is_open, not_open}
-use Rattle.book.specs.States.{after, is_declaration, is_number, is_sound, state_in}
+use Rattle.foundation.specs.Interval.{after}
+use Rattle.book.specs.States.{is_declaration, is_number, is_sound, state_in}
 use Rattle.book.specs.Table.{is_fitting, outside_fault, proposal_fault, table_fault, table_state}
 use Rattle.book.proofs.Slots.{written}
 use Rattle.book.proofs.Terms.{and_first, and_second, unless_none}

@@ -2,4 +2,5 @@ pub mod Bytes
 pub mod Division
 pub mod Fault
 pub mod First
+pub mod Interval
 pub mod Sums
