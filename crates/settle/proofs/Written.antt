@@ -3,7 +3,7 @@ use Rattle.std.proofs.Common.{◌≡◌, ℕ, zero, suc, ◌+◌, ◌-◌, ◌^�
 use Rattle.std.specs.Str.Parse.{IsNumeral, digits_value, without_leading_plus}
 use Rattle.std.proofs.lemmas.List.{take_more, map-append, drop-drop, drop-set-lt}
 use Rattle.std.proofs.lemmas.Grind.{take-set_at}
-use Rattle.settle.specs.Numbers.{Reads, Numbers, Within, FiveTotals, padded}
+use Rattle.settle.specs.Numbers.{Reads, Numbers, Within, padded}
 use Rattle.settle.specs.Sheet.{texts}
 
 -- what `parse` reads of a word that begins with no plus
@@ -55,10 +55,6 @@ module _ (most : ℕ) where
   within (w ∷ ws) [] h k l = elim h [ ]
   within (w ∷ ws) (n ∷ ns) h zero l = h.0.2
   within (w ∷ ws) (n ∷ ns) h (suc k) l = within ws ns h.1 k (omega arith)
-
--- fewer words than totals
-pub too_few : (ws : List (List ℕ)) (ns : List ℕ) → length ws < 5 → FiveTotals (take 5 ws) ns → ⊥
-too_few ws ns few h = omega (arith, h.0, as_many 4294967295 (take 5 ws) ns h.1, length-take 5 ws)
 
 -- a number put in the first place that is still 0
 pub put_padded : (n i : ℕ) (ns : List ℕ) (m : ℕ) → i < n → drop i ns ≡ replicate (n - i) 0 → drop (i + 1) (set ns i m) ≡ replicate (n - (i + 1)) 0
