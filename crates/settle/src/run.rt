@@ -1,5 +1,5 @@
 // Carries out the steps of a run sheet.
-ghost use Rattle.std.specs.Prelude.{◌≡◌, ◌+◌, ◌*◌, ◌≤◌, length, IfOk};
+ghost use Rattle.std.specs.Prelude.{◌≡◌, ◌+◌, ◌*◌, ◌≤◌, length, IfOk, vec_len};
 
 use crate::accounts::Account;
 use crate::failure::Failure;
@@ -138,19 +138,35 @@ impl Run {
     }
 
     fn register_file(&mut self, rt: &HostRuntime, line: usize, name: &str) -> Result<(), Failure> {
-        let mut owners = [0u8; OWNERS_READ];
-        let count = self
-            .read(rt, name, &mut owners)
-            .map_err(|error| unusable(rt.alloc(), line, name, error))?;
-        self.register(line, &owners[..count])
+        let owners = self.read(rt, line, name, OWNERS_READ)?;
+        self.register(line, owners.as_slice())
     }
 
-    // Reads of a file what the buffer has room for, and says how many bytes that is.
-    fn read(&self, rt: &HostRuntime, name: &str, buffer: &mut [u8]) -> io::Result<usize>
+    // Fills the buffer from a file, and says how far.
+    fn fill_from(&self, rt: &HostRuntime, name: &str, buffer: &mut [u8]) -> io::Result<usize>
         ensures { IfOk result (λ n. n ≤ length buffer.old) }
     {
         let mut file = self.open(rt, name)?;
         fill(&mut file, buffer)
+    }
+
+    // The bytes of a file, as far as they are wanted.
+    fn read(
+        &self,
+        rt: &HostRuntime,
+        line: usize,
+        name: &str,
+        most: usize,
+    ) -> Result<Vec<u8>, Failure>
+        ensures { IfOk result (λ v. vec_len v ≤ most) }
+    {
+        let heap = rt.alloc();
+        let mut bytes = vec![in heap; 0u8; most]?;
+        let count = self
+            .fill_from(rt, name, bytes.as_mut_slice())
+            .map_err(|error| unusable(heap, line, name, error))?;
+        bytes.truncate(count);
+        Ok(bytes)
     }
 
     // Offers one interval, and says whether it was used.

@@ -2,7 +2,7 @@
 ghost use Rattle.std.specs.Prelude.{◌≡◌, [], ◌∷◌, sum};
 ghost use Rattle.energy.specs.Energy.{total_of};
 
-use super::{Run, unusable};
+use super::Run;
 use crate::failure::Failure;
 use crate::numbers::{PARTIES, REGIONS};
 use energy::dispatch::dispatch_figure;
@@ -26,13 +26,8 @@ impl Run {
         line: usize,
         name: &str,
     ) -> Result<(), Failure> {
-        let heap = rt.alloc();
-        let mut buffer = vec![in heap; 0u8; METERED_READ]?;
-        // Not by `map_err`: past it the check runs out of memory before it finds the bound of the slice.
-        match self.read(rt, name, buffer.as_mut_slice()) {
-            Ok(count) => self.meter(line, name, &buffer.as_slice()[..count]),
-            Err(error) => Err(unusable(heap, line, name, error)),
-        }
+        let bytes = self.read(rt, line, name, METERED_READ)?;
+        self.meter(line, name, bytes.as_slice())
     }
 
     fn meter(&mut self, line: usize, name: &str, bytes: &[u8]) -> Result<(), Failure> {

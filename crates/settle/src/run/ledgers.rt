@@ -132,13 +132,8 @@ impl Run {
         line: usize,
         name: &str,
     ) -> Result<(), Failure> {
-        let heap = rt.alloc();
-        let mut buffer = vec![in heap; 0u8; RECORDS_READ]?;
-        // Not by `map_err`: past it the check runs out of memory before it finds the bound of the slice.
-        match self.read(rt, name, buffer.as_mut_slice()) {
-            Ok(count) => self.records(line, name, &buffer.as_slice()[..count]),
-            Err(error) => Err(unusable(heap, line, name, error)),
-        }
+        let bytes = self.read(rt, line, name, RECORDS_READ)?;
+        self.records(line, name, bytes.as_slice())
     }
 
     fn records(&mut self, line: usize, name: &str, bytes: &[u8]) -> Result<(), Failure> {
