@@ -44,9 +44,6 @@ declare_judged n kind regions s made k =
     three (number_fault n) (kind_fault kind) (set_fault regions) (or_else (unless_in 3 (is_free_state s) 8 0) (unless_in 3 (ltb made 32) 10 0))
     ∙ ap (or_else (declaration_fault n kind regions)) (declare_table s k regions made)
 
-pub declare_early : (n kind regions : ℕ) (s : State) (made : ℕ) (f : Refused) → Some f ≡ declaration_fault n kind regions → Some f ≡ declare_fault n kind regions s made
-declare_early n kind regions s made f e = early f (declaration_fault n kind regions) (table_fault s (Declare Regulation regions made)) _ (declare_judged n kind regions s made Regulation) e
-
 pub declare_late : (n kind regions : ℕ) (s : State) (made : ℕ) (k : Kind) (o : Option Refused) → None ≡ declaration_fault n kind regions → o ≡ table_fault s (Declare k regions made) → o ≡ declare_fault n kind regions s made
 declare_late n kind regions s made k o none e = late o (declaration_fault n kind regions) (table_fault s (Declare k regions made)) _ (declare_judged n kind regions s made k) none e
 
@@ -57,9 +54,6 @@ withdraw_table (state.Claimed d p) = refl
 
 withdraw_judged : (n : ℕ) (s : State) → withdraw_fault n s ≡ or_else (number_fault n) (table_fault s Withdraw)
 withdraw_judged n s = ap (or_else (number_fault n)) (withdraw_table s)
-
-pub withdraw_early : (n : ℕ) (s : State) (f : Refused) → Some f ≡ number_fault n → Some f ≡ withdraw_fault n s
-withdraw_early n s f e = early f (number_fault n) (table_fault s Withdraw) _ (withdraw_judged n s) e
 
 pub withdraw_late : (n : ℕ) (s : State) (o : Option Refused) → None ≡ number_fault n → o ≡ table_fault s Withdraw → o ≡ withdraw_fault n s
 withdraw_late n s o none e = late o (number_fault n) (table_fault s Withdraw) _ (withdraw_judged n s) none e
@@ -90,10 +84,6 @@ claim_table (state.Claimed d q) value ts p is = refl
 
 claim_split : (n interval value : ℕ) (ts : List Term) (part : ℕ) (s : State) → claim_fault n interval value ts part s ≡ or_else (request_fault n interval value ts) (state_fault s interval value ts part)
 claim_split n interval value ts part s = five (unless_in 3 (leb (length ts) 10) 1 0) (number_fault n) (unless_in 3 (leb interval 2015) 2 0) (unless_in 3 (leb value 2000000) 2 0) (terms_fault ts) (state_fault s interval value ts part)
-
--- a claim that was refused before its state counted
-pub claim_early : (n interval value : ℕ) (ts : List Term) (part : ℕ) (s : State) (f : Refused) → Some f ≡ request_fault n interval value ts → Some f ≡ claim_fault n interval value ts part s
-claim_early n interval value ts part s f e = early f (request_fault n interval value ts) (state_fault s interval value ts part) _ (claim_split n interval value ts part s) e
 
 -- and one that the table answered
 pub claim_late : (n interval value : ℕ) (ts : List Term) (part : ℕ) (s : State) (p : Proposal) (o : Option Refused) → None ≡ request_fault n interval value ts → Proposes (declared_in s) value ts p → p.interval.number ≡ interval → p.part ≡ part → o ≡ table_fault s (Claim p) → o ≡ claim_fault n interval value ts part s

@@ -1,18 +1,16 @@
 -- The states that the table gives are those that the calls leave.
-use Rattle.std.proofs.Common.{◌≡◌, ℕ, suc, ◌<◌, true, ◌&&◌, ltb, leb, None, sym, refl, ap, ◌∙◌}
+use Rattle.std.proofs.Common.{◌≡◌, ℕ, suc, ◌<◌, ltb, None, sym, refl, ap, ◌∙◌}
 use Rattle.std.proofs.lemmas.Bool.{ltb-true}
 use Rattle.foundation.specs.Fault.{refused_in}
-use Rattle.foundation.specs.First.{or_else}
-use Rattle.foundation.proofs.First.{or_else_left, or_else_right, some_none}
+use Rattle.foundation.proofs.First.{some_none}
 use Rattle.book.specs.declared.claim.OpenClaim.{OpenClaim}
 use Rattle.book.specs.declared.state.Kind.{Kind}
 use Rattle.book.specs.declared.state.State.{State}
 use Rattle.book.specs.declared.state.State.TheVariants.{Free, Declared, Claimed}
 use Rattle.book.specs.declared.state.table.Event.TheVariants.{Declare, Withdraw, Claim, Recover, HandBack}
 use Rattle.book.specs.declared.state.table.Proposal.{Proposal}
-use Rattle.book.specs.Calls.{claimed_state, declared_state, number_fault, recovered_state, returned_state}
-use Rattle.book.specs.Checks.{declaration_fault, kind_fault, kind_of, set_fault}
-use Rattle.book.specs.States.{is_number}
+use Rattle.book.specs.Calls.{claimed_state, declared_state, recovered_state, returned_state}
+use Rattle.book.specs.Checks.{kind_of}
 use Rattle.book.specs.Table.{table_fault, table_state}
 use Rattle.book.proofs.Terms.{unless_none}
 
@@ -25,13 +23,6 @@ pub declare_room : (s : State) (k : Kind) (regions made : ℕ) → None ≡ tabl
 declare_room Free k regions made e = ltb-true made 32 (unless_none 3 (ltb made 32) 10 0 (sym e))
 declare_room (Declared d) k regions made e = absurd (some_none (refused_in 3 8 0) (sym e))
 declare_room (Claimed d p) k regions made e = absurd (some_none (refused_in 3 8 0) (sym e))
-
--- a declaration's figures, where they are not refused
-pub declared_number : (n kind regions : ℕ) → None ≡ declaration_fault n kind regions → is_number n ≡ true
-declared_number n kind regions e = unless_none 3 (is_number n) 2 0 (or_else_left (number_fault n) (or_else (kind_fault kind) (set_fault regions)) (sym e))
-
-pub declared_regions : (n kind regions : ℕ) → None ≡ declaration_fault n kind regions → (leb 1 regions && leb regions 31) ≡ true
-declared_regions n kind regions e = unless_none 3 (leb 1 regions && leb regions 31) 2 0 (or_else_right (kind_fault kind) (set_fault regions) (or_else_right (number_fault n) (or_else (kind_fault kind) (set_fault regions)) (sym e)))
 
 pub withdraw_next : (s : State) → None ≡ table_fault s Withdraw → table_state s Withdraw ≡ Free
 withdraw_next Free e = refl

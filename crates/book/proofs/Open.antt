@@ -1,5 +1,5 @@
 -- A claim that its number holds open: it passes every check of a recovery but the last two.
-use Rattle.std.proofs.Common.{◌≡◌, ℕ, ◌-◌, ◌≤◌, Bool, true, false, cond, List, get_or, Some, None, Option, sym, refl, ap, ◌∙◌}
+use Rattle.std.proofs.Common.{◌≡◌, ℕ, ◌-◌, ◌≤◌, Bool, true, false, cond, List, get_or, None, Option, sym, refl, ap, ◌∙◌}
 use Rattle.foundation.specs.Fault.{Refused, refused_in}
 use Rattle.foundation.specs.First.{or_else}
 use Rattle.foundation.proofs.First.{some_none}
@@ -15,9 +15,6 @@ use Rattle.book.specs.States.{is_number, is_sound, state_in}
 use Rattle.book.specs.Table.{table_fault}
 use Rattle.book.proofs.Judged.{recover_table}
 use Rattle.book.proofs.Soundness.{Fair, fair}
-
-pub recovery_early : (s : State) (c : OpenClaim) (b : Basis) (left : ℕ) (f : Refused) → Some f ≡ table_fault s (Recover c) → Some f ≡ recovery_fault s c b left
-recovery_early s c b left f e = ap (λ o. or_else o (or_else (nobody_fault (declared_in s) b) (lines_fault (declared_in s) b left))) (e ∙ recover_table s c)
 
 passes : (s : State) (c : OpenClaim) (b : Basis) (left : ℕ) → Fair s c → b.part ≡ c.part → recover_fault (declared_in s) b c.serial left ≡ or_else (nobody_fault (declared_in s) b) (lines_fault (declared_in s) b left)
 passes s c b left is same =

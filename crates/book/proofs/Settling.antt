@@ -11,23 +11,6 @@ use Rattle.book.specs.History.{History, claimed, declared, paid, recovered, reco
 use Rattle.book.specs.Kept.{Kept, held_in, serial_in}
 use Rattle.book.specs.Settled.{AllAlike, Charged, Each, Likened, Settled}
 
--- a book that is opened on an empty ledger
-pub kept_opened : (f : ℕ → State) (m : ℕ) (owed : ℕ → ℕ → ℤ) → ((n : ℕ) → f n ≡ state.Free) → m ≡ 0 → ((p s : ℕ) → p < 64 → 1 ≤ s → s ≤ 32 → owed p s ≡ pos 0) → Kept [] f m owed
-kept_opened f m owed free none empty =
-    record {
-      count = none;
-      serial = λ n a b. ap serial_in (free n);
-      regions = λ n a b c. absurd (nothing c);
-      claim = λ n a b. ap (held_in n) (free n);
-      owes = λ p s a b c. empty p s a b c;
-      accounted = λ s. refl;
-      fresh = λ s a. refl;
-      weighed = λ s. tt;
-    }
-  where
-    nothing : 1 ≤ 0 → ⊥
-    nothing h = omega (arith, h)
-
 -- the parts of recoveries, added up
 abbrev parts_of : List Basis → ℕ
 parts_of [] = 0

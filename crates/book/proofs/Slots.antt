@@ -1,6 +1,5 @@
 -- The states of the numbers, with one of them written.
-use Rattle.std.proofs.Common.{◌≡◌, ℕ, ◌-◌, ◌≤◌, Bool, true, false, cond, eqb, leb, List, length, get_or, set, replicate, sym, refl, ap, ◌∙◌, arith, get_or-set_other, get_or-set_same, true-eqb, false-eqb}
-use lib.ListN.{get_or-replicate}
+use Rattle.std.proofs.Common.{◌≡◌, ℕ, ◌-◌, ◌≤◌, Bool, true, false, cond, eqb, leb, List, length, get_or, set, sym, refl, ap, ◌∙◌, arith, get_or-set_other, get_or-set_same, true-eqb, false-eqb}
 use Rattle.std.proofs.lemmas.Bool.{leb-true}
 use Rattle.std.proofs.lemmas.Bool.Decides.{nat_tests}
 use Rattle.book.specs.declared.state.State.{State}
@@ -35,8 +34,3 @@ by_number false s n k states h isn long =
 
 pub written : (states : List State) (n : ℕ) (s : State) → is_number n ≡ true → length states ≡ 16 → (k : ℕ) → state_in (set states (n - 1) s) k ≡ changed n s (state_in states) k
 written states n s isn long k = by_number (is_number k) s n k states refl isn long
-
--- a book that opens has every number free
-pub all_free : (b : Bool) (k : ℕ) → is_number k ≡ b → state_in (replicate 16 Free) k ≡ Free
-all_free true k h = ap (λ t. cond t (get_or (replicate 16 Free) (k - 1) Free) Free) h ∙ get_or-replicate 16 (k - 1) Free Free (omega (arith, number_low k h, number_high k h))
-all_free false k h = ap (λ t. cond t (get_or (replicate 16 Free) (k - 1) Free) Free) h

@@ -2,21 +2,18 @@
 use Rattle.std.proofs.Common.{◌≡◌, ℕ, suc, ◌-◌, ◌≤◌, Bool, true, false, cond, not, ◌&&◌, eqb, leb, List, length, set, None, sym, refl, ap, ◌∙◌, arith, true-eqb}
 use Rattle.std.proofs.lemmas.Bool.{leb-true}
 use Rattle.std.proofs.lemmas.Bool.Decides.{nat_tests}
-use Rattle.foundation.specs.Fault.{refused_in, unless_in}
-use Rattle.foundation.specs.First.{or_else}
-use Rattle.foundation.proofs.First.{or_else_left, or_else_right, some_none}
+use Rattle.foundation.specs.Fault.{refused_in}
+use Rattle.foundation.proofs.First.{some_none}
 use Rattle.book.specs.declared.claim.OpenClaim.{OpenClaim}
 use Rattle.book.specs.declared.state.Declaration.{Declaration}
 use Rattle.book.specs.declared.state.Kind.{Kind}
 use Rattle.book.specs.declared.state.Kind.TheVariants.{Regulation, Delayed}
 use Rattle.book.specs.declared.state.State.{State}
 use Rattle.book.specs.declared.state.State.TheVariants.{Free, Declared, Claimed}
-use Rattle.book.specs.declared.state.table.Event.TheVariants.{Claim, HandBack, Recover}
 use Rattle.book.specs.declared.state.table.Proposal.{Proposal}
 use Rattle.book.specs.Calls.{declared_in, is_open, not_open}
-use Rattle.foundation.specs.Interval.{after}
 use Rattle.book.specs.States.{is_declaration, is_number, is_sound, state_in}
-use Rattle.book.specs.Table.{is_fitting, outside_fault, proposal_fault, table_fault, table_state}
+use Rattle.book.specs.Table.{is_fitting}
 use Rattle.book.proofs.Slots.{written}
 use Rattle.book.proofs.Terms.{and_first, and_second, unless_none}
 
@@ -27,9 +24,6 @@ pub sound_more : (made : ℕ) (s : State) → is_sound made s ≡ true → is_so
 sound_more made Free h = refl
 sound_more made (Declared d) h = declaration_more made d h
 sound_more made (Claimed d p) h = grind (arith, nat_tests)
-
-pub sound_declared : (made regions : ℕ) (kind : Kind) → (leb 1 regions && leb regions 31) ≡ true → is_sound (suc made) (Declared (record { serial = suc made; kind = kind; regions = regions; last = None })) ≡ true
-sound_declared made regions kind h = grind (arith, nat_tests)
 
 one_of : (b : Bool) (made : ℕ) (s t : State) → is_sound made s ≡ true → is_sound made t ≡ true → is_sound made (cond b s t) ≡ true
 one_of true made s t h k = h
@@ -48,35 +42,6 @@ both a b h k = ap (λ t. t && b) h ∙ k
 
 in_range : (low high n : ℕ) → low ≤ n → n ≤ high → (leb low n && leb n high) ≡ true
 in_range low high n h k = grind (arith, nat_tests)
-
-pub sound_claimed : (made : ℕ) (d : Declaration) (p : Proposal) → is_sound made (Declared d) ≡ true → proposal_fault d p ≡ None → is_sound made (Claimed d (record { interval = p.interval; part = p.part })) ≡ true
-sound_claimed made d p h none =
-    let last = unless_in 3 (leb 1 p.part) 14 0 in
-    let paid = or_else (unless_in 3 (leb p.payment 200000000000) 15 0) last in
-    let fitting = or_else (unless_in 3 (is_fitting d.kind p) 13 0) paid in
-    let inside = or_else (outside_fault p.outside) fitting in
-    let a : fitting ≡ None = or_else_right (outside_fault p.outside) fitting (or_else_right (unless_in 3 (leb (after d.last) p.interval.number) 4 0) inside none) in
-    let b : paid ≡ None = or_else_right (unless_in 3 (is_fitting d.kind p) 13 0) paid a in
-    let least = leb-true 1 p.part (unless_none 3 (leb 1 p.part) 14 0 (or_else_right (unless_in 3 (leb p.payment 200000000000) 15 0) last b)) in
-    let most = leb-true p.payment 200000000000 (unless_none 3 (leb p.payment 200000000000) 15 0 (or_else_left (unless_in 3 (leb p.payment 200000000000) 15 0) last b)) in
-    let part = fits d.kind p (unless_none 3 (is_fitting d.kind p) 13 0 (or_else_left (unless_in 3 (is_fitting d.kind p) 13 0) paid a)) in
-    both (is_declaration made d) (leb 1 p.part && leb p.part 200000000000) h (in_range 1 200000000000 p.part least (omega arith))
-
--- the states that a claim, its recovery and its return leave
-pub sound_claim : (made : ℕ) (s : State) (p : Proposal) → is_sound made s ≡ true → table_fault s (Claim p) ≡ None → is_sound made (table_state s (Claim p)) ≡ true
-sound_claim made Free p h none = refl
-sound_claim made (Declared d) p h none = sound_claimed made d p h none
-sound_claim made (Claimed d q) p h none = h
-
-pub sound_recovered : (made : ℕ) (s : State) (c : OpenClaim) → is_sound made s ≡ true → is_sound made (table_state s (Recover c)) ≡ true
-sound_recovered made Free c h = refl
-sound_recovered made (Declared d) c h = h
-sound_recovered made (Claimed d p) c h = and_first (is_declaration made d) (leb 1 p.part && leb p.part 200000000000) h
-
-pub sound_returned : (made : ℕ) (s : State) (c : OpenClaim) → is_sound made s ≡ true → is_sound made (table_state s (HandBack c)) ≡ true
-sound_returned made Free c h = refl
-sound_returned made (Declared d) c h = h
-sound_returned made (Claimed d p) c h = and_first (is_declaration made d) (leb 1 p.part && leb p.part 200000000000) h
 
 -- what the claim that a number holds open has: a part, regions and a serial in range
 pub record Fair (s : State) (c : OpenClaim) : Type 0 where

@@ -30,10 +30,6 @@ pub and_second : (a b : Bool) → (a && b) ≡ true → b ≡ true
 and_second true b e = e
 and_second false b e = absurd (let z : ◌≡◌ {A = ℕ} 0 1 = cc in omega arith)
 
--- a number that is not refused
-pub number_is : (n : ℕ) → number_fault n ≡ None → (leb 1 n && leb n 16) ≡ true
-number_is n e = unless_none 3 (leb 1 n && leb n 16) 2 0 e
-
 pub ranged : (n interval value : ℕ) (ts : List Term) → request_fault n interval value ts ≡ None → Ranged ts
 ranged n interval value ts none =
     let values = or_else (unless_in 3 (leb value 2000000) 2 0) (terms_fault ts) in
@@ -44,9 +40,3 @@ ranged n interval value ts none =
       few = leb-true (length ts) 10 (unless_none 3 (leb (length ts) 10) 1 0 (or_else_left _ numbers none));
       regions = λ k l. ltb-true (region_at ts k) 5 (and_first (ltb (region_at ts k) 5) ((leb 1 (service_at ts k) && leb (service_at ts k) 2) && leb (amount_at ts k) 20000) (unless_none 3 (is_term ts k) 2 k (first_to_silent (length ts) (λ j. unless_in 3 (is_term ts j) 2 j) fine k l)));
     }
-
-pub request_number : (n interval value : ℕ) (ts : List Term) → request_fault n interval value ts ≡ None → (leb 1 n && leb n 16) ≡ true
-request_number n interval value ts none =
-    let values = or_else (unless_in 3 (leb value 2000000) 2 0) (terms_fault ts) in
-    let intervals = or_else (unless_in 3 (leb interval 2015) 2 0) values in
-    number_is n (or_else_left (number_fault n) intervals (or_else_right (unless_in 3 (leb (length ts) 10) 1 0) (or_else (number_fault n) intervals) none))

@@ -89,9 +89,7 @@ pub(crate) fn check_request(
         return Err(Layer::Book.fault(Refusal::WrongLength, 0));
     }
     check_number(number)?;
-    let Some(week_interval) = WeekInterval::new(interval) else {
-        return Err(out_of_range(0));
-    };
+    let week_interval = WeekInterval::new(interval).ok_or(out_of_range(0))?;
     if value > LARGEST_VALUE {
         return Err(out_of_range(0));
     }

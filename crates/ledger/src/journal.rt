@@ -8,7 +8,8 @@ mod calls;
 // The most records that a journal uses.
 pub const MOST_RECORDS: usize = 4_096;
 
-// The first `written` records of the bytes are the journal's; the others are as they were.
+// The first `written` records of the bytes are the journal's; the others are as they were. The bytes are their owner's, so a count
+// stands beside them and nothing is allocated.
 #[derive(Drop)]
 pub struct Journal<'a> {
     bytes: &'a mut [u8],

@@ -13,6 +13,7 @@ pub const SERIALS: u16 = 32;
 // The largest size of a line, in ticks.
 pub const LARGEST_LINE: i64 = 200_000_000_000;
 
+// A party and a serial are two numbers here, as callers go over parties and over serials.
 pub trait Ledger {
     // The amount of a party (0 to 63) and a serial (1 to 32), in ticks.
     ghost owed: { Self → ℕ → ℕ → ℤ };

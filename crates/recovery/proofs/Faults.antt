@@ -49,15 +49,6 @@ nobody_pays D b p q r s e =
     let z = below_least 1 (cmpf D b + crmpf D b) (omega arith) in
     rw (x, y, z)
 
--- the first three faults are one refusal, so the serial may be judged first
-serial_first : (s p r : Bool) (rest : Option Refused) → s ≡ false → or_else (unless_in 3 p 2 0) (or_else (unless_in 3 r 2 0) (or_else (unless_in 3 s 2 0) rest)) ≡ Some (refused_in 3 2 0)
-serial_first s true true rest e = rw e
-serial_first s true false rest e = refl
-serial_first s false r rest e = refl
-
-pub serial_fails : (D : ℕ) (b : Basis) (serial left : ℕ) → (leb 1 serial && leb serial 32) ≡ false → recover_fault D b serial left ≡ Some (refused_in 3 2 0)
-serial_fails D b serial left e = serial_first (leb 1 serial && leb serial 32) (leb 1 b.part && leb b.part 200000000000) (leb 1 D && leb D 31) (or_else (nobody_fault D b) (lines_fault D b left)) e
-
 -- with a serial in range, what the split refuses the recovery refuses, and only then the lines count
 regroup : (p r n l : Option Refused) → or_else p (or_else r (or_else None (or_else n l))) ≡ or_else (or_else p (or_else r n)) l
 regroup None None None l = refl

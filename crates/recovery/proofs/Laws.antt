@@ -144,10 +144,6 @@ share_nought D b p l e =
       share_nothing (residual_part_of D b) 64 (customer D b) p (customer_nought D b p e),
     )
 
--- no share is above the part
-pub share_most : (D : ℕ) (b : Basis) (p : ℕ) → p < 64 → 0 < cmpf D b + crmpf D b → share_paid D b p ≤ b.part
-share_most D b p l h = omega (arith, sum_to_one_le 64 (share_paid D b) p l, shares_whole D b h)
-
 -- the exact share
 
 exact_none : (D : ℕ) (b : Basis) (p : ℕ) → energy_in D b p ≡ 0 → (exact_top D b p ≡ 0) × (exact_bottom D b p ≡ 1)

@@ -5,8 +5,7 @@ use Rattle.std.proofs.lemmas.Bool.Decides.{nat_tests}
 use Rattle.foundation.specs.Sums.{listed}
 use Rattle.foundation.proofs.Lists.{sum_by_places}
 use Rattle.foundation.proofs.Sums.{sum_to_none, sum_to_more, sum_to_mono, sum_to_eq, sum_to_bound}
-use Rattle.recovery.specs.Shares.{Basis, Alike, lines_for, lines_of, share_paid}
-use Rattle.recovery.proofs.Laws.{share_alike}
+use Rattle.recovery.specs.Shares.{lines_for}
 
 pub lines_none : (s : ℕ → ℕ) → lines_for s 0 ≡ 0
 unfolding lines_for
@@ -39,9 +38,6 @@ lines_mono s m n h = sum_to_mono m n _ h
 pub lines_eq : (s t : ℕ → ℕ) (n : ℕ) → ((p : ℕ) → p < n → s p ≡ t p) → lines_for s n ≡ lines_for t n
 unfolding lines_for
 lines_eq s t n h = sum_to_eq n _ _ (λ p l. ap (λ v. cond (eqb v 0) 0 1) (h p l))
-
-pub lines_alike : (D : ℕ) (b c : Basis) → Alike b c → lines_of D b ≡ lines_of D c
-lines_alike D b c a = lines_eq (share_paid D b) (share_paid D c) 64 (share_alike D b c a)
 
 pub lines_few : (s : ℕ → ℕ) (n : ℕ) → lines_for s n ≤ n
 unfolding lines_for

@@ -16,6 +16,7 @@ use std::array;
 // The place of the residual, after the parties.
 pub(crate) const RESIDUAL: usize = 64;
 
+// Rows of one figure each, since a row is divided over as a whole.
 #[derive(Drop)]
 pub(crate) struct Weights {
     // By party, its energy in the regions.

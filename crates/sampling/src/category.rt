@@ -30,7 +30,7 @@ impl Category {
     }
 }
 
-// A figure for each category.
+// A figure for each category: four names, so that no number stands for a category.
 #[derive(Clone, Copy, Default)]
 pub struct Sums {
     pub raise_not_enabled: i64,

@@ -1,5 +1,5 @@
 -- The terms that a call holds.
-use Rattle.std.specs.Prelude.{ℕ, ◌-◌, List, ◌++◌, length, take, replicate}
+use Rattle.std.specs.Prelude.{◌-◌, List, ◌++◌, length, take, replicate}
 use Rattle.book.specs.declared.term.Term.{Term}
 
 abbrev pub no_term : Term

@@ -15,7 +15,7 @@ const NO_TERM: Term = Term {
     amount: 0,
 };
 
-// The first `count` of the items.
+// The first `count` of the items: an array with its count, so that a call is copied and nothing is allocated.
 #[derive(Clone, Copy)]
 pub struct Terms {
     pub items: [Term; TERMS],
@@ -41,7 +41,8 @@ impl Terms {
         &self.items[..self.count.min(TERMS)]
     }
 }
-// A recovery or a return names the number whose claim is held.
+
+// A recovery or a return names the number whose claim is held. What is declared comes as it is offered, good or bad.
 #[derive(Clone, Copy)]
 pub enum Call {
     Declare {
@@ -67,6 +68,7 @@ pub enum Call {
     },
 }
 
+// What a call came to. A refusal is one of several ends that a report tells apart, so it is a case here and not a `Result` around them.
 #[derive(Clone, Copy)]
 pub enum Answer {
     Declared {

@@ -168,6 +168,7 @@ impl<'a> PartSplit<'a> {
         ensures energy { result.energy ≡ sum_to 64 (energy_of self.now.shares) }
         ensures share { result.share ≡ self.now.part }
     {
+        // One loop for both sums.
         let mut energy = 0;
         let mut share = 0;
         for party in 0..PARTIES {

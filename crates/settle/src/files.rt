@@ -22,7 +22,7 @@ fn read_again(file: &mut File, buffer: &mut [u8]) -> io::Result<usize>
     Err(io::Error::from(ErrorKind::TimedOut))
 }
 
-// Fills the buffer and says how far: to its end, unless the file ends first.
+// Fills the buffer and says how far: to its end, unless the file ends first. `read_exact` would not say how far that is.
 pub(crate) fn fill(file: &mut File, buffer: &mut [u8]) -> io::Result<usize>
     ensures { IfOk result (λ n. n ≤ length buffer.old) }
 {

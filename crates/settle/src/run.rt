@@ -71,6 +71,7 @@ impl Run {
         File::open(rt, path)
     }
 
+    // An arm for each step: they take different things of the run.
     fn step<L: Ledger>(
         &mut self,
         rt: &HostRuntime,

@@ -108,6 +108,7 @@ fn claim(heap: Global, words: &[&str]) -> Result<Step, NoStep>
     }))
 }
 
+// An arm for each keyword, as each step takes other words.
 pub(crate) fn asked(heap: Global, keyword: &str, words: &[&str]) -> Result<Step, NoStep>
     ensures { Parsed (λ step. Asks keyword.now (texts words.now) step) result }
 {

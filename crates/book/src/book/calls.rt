@@ -26,7 +26,8 @@ impl Book {
         }
     }
 
-    // Declares a requirement under a free number, and answers its serial.
+    // Declares a requirement under a free number, and answers its serial. The kind comes as its number: any can be offered, and is
+    // refused in its turn.
     pub fn declare(&mut self, number: u8, kind: u8, regions: u8) -> Result<u16, Fault>
         ensures answer { fault_of result ≡ declare_fault number kind regions (state_in self.old.states number) self.old.made }
         ensures value { IfOk result (λ serial. serial ≡ suc self.old.made) }

@@ -19,6 +19,7 @@ impl Book {
         ensures law { (h : History) → Kept h (state_in self.now.states) self.now.made (L.Ledger.owed ledger.now) → Settled h (λ n. held_in n (state_in self.now.states n)) (L.Ledger.owed ledger.now) }
         ensures alike { (h k : History) (states : ℕ → AState) (count : ℕ) (due : ℕ → ℕ → ℤ) → Kept h (state_in self.now.states) self.now.made (L.Ledger.owed ledger.now) → Kept k states count due → (s t : ℕ) → 1 ≤ s → s ≤ 32 → 1 ≤ t → t ≤ 32 → Likened h s k t → (p : ℕ) → p < 64 → L.Ledger.owed ledger.now p s ≡ due p t }
     {
+        // One by one, since the bound of a signed sum has to be shown at each amount.
         let mut sum = 0;
         for party in 0..PARTIES {
             sum += ledger.amount(party, serial);

@@ -1,6 +1,5 @@
 use Rattle.std.proofs.Common.{◌≡◌, ℕ, ◌<◌, ◌≤◌, length, ◌∙◌, arith, rules}
 use Rattle.std.specs.List.{sum_by}
-use Rattle.foundation.specs.Sums.{sum_to}
 use Rattle.foundation.proofs.Lists.{sum_by_places}
 use Rattle.foundation.proofs.Sums.{sum_to_bound}
 use Rattle.book.specs.Calls.{amount_at}

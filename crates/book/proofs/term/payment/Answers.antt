@@ -1,4 +1,4 @@
-use Rattle.std.proofs.Common.{◌*◌, ◌≤◌, ap, ◌∙◌, mul-le-mul, arith}
+use Rattle.std.proofs.Common.{◌*◌, ap, ◌∙◌}
 use Rattle.book.specs.Calls.{payment}
 use Rattle.book.proofs.term.payment.Goals as goal
 

@@ -1,68 +1,58 @@
-use Rattle.std.proofs.Common.{◌≡◌, ℕ, None, sym, refl, ap, ◌∙◌, subst, arith}
-use Rattle.std.proofs.lemmas.Result.{err_from_is_err_and, IfOk-from_err}
-use Rattle.foundation.specs.Fault.{told}
+use Rattle.std.proofs.Common.{◌≡◌, ℕ, None, sym, ap, ◌∙◌, subst}
+use Rattle.std.proofs.lemmas.Result.{err_from_is_err_and}
 use Rattle.book.specs.declared.state.table.Event.TheVariants.{Claim}
 use Rattle.book.specs.Calls.{changed, claimed_state, declared_in, figures_of}
 use Rattle.book.specs.Checks.{Proposes}
 use Rattle.book.specs.History.{Claimed}
 use Rattle.book.specs.Kept.{serial_in}
-use Rattle.book.specs.States.{is_sound, state_in}
+use Rattle.book.specs.States.{state_in}
 use Rattle.book.specs.Table.{table_fault}
 use Rattle.book.proofs.Histories.{kept_refused}
 use Rattle.book.proofs.Telling.{told_claim}
-use Rattle.book.proofs.Judged.{claim_early, claim_late}
+use Rattle.book.proofs.Judged.{claim_late}
 use Rattle.book.proofs.Nexts.{claimed_next}
-use Rattle.book.proofs.Soundness.{sound_claim}
-use Rattle.book.proofs.Terms.{ranged, request_number}
+use Rattle.book.proofs.Terms.{ranged}
 use Rattle.book.proofs.book.Book.claim.Goals as goal
+
+pub returns-in_err-week_interval-clause-told : goal.returns-in_err-week_interval-clause-told
+returns-in_err-week_interval-clause-told c =
+    let p = err_from_is_err_and c.from_residual.result c.from_residual.ensures.1 in
+    λ h owed k. rw p.1 (kept_refused h _ _ owed k)
 
 pub propose-proposal-requires : goal.propose-proposal-requires
 propose-proposal-requires c = ranged c.args.number c.args.interval c.args.marginal_value c.args.terms.now (sym c.in_ok-week_interval.ensures.answer)
 
-pub returns-in_err-week_interval : goal.returns-in_err-week_interval
-returns-in_err-week_interval c =
-    let p = err_from_is_err_and c.from_residual.result c.from_residual.ensures.1 in
-    let state = state_in c.args.self.now.states c.args.number in
-    record {
-      answer = rw (p.1, p.2) (claim_early c.args.number c.args.interval c.args.marginal_value c.args.terms.now c.args.part state (told c.in_err-week_interval.field-0.0) c.in_err-week_interval.ensures.answer);
-      value = IfOk-from_err _ _ c.from_residual.ensures.0;
-      states = λ n. rw p.1 refl;
-      count = refl;
-      refused = λ _. refl;
-      told = λ h owed k. rw p.1 (kept_refused h _ _ owed k);
-    }
-
-pub returns-in_err-next : goal.returns-in_err-next
-returns-in_err-next c =
+pub returns-in_err-next-clause-answer : goal.returns-in_err-next-clause-answer
+returns-in_err-next-clause-answer c =
     let p = err_from_is_err_and c.from_residual-in_err-next.result c.from_residual-in_err-next.ensures.1 in
     let state = state_in c.args.self.now.states c.args.number in
     let asked = c.in_ok-week_interval.ensures in
     let proposal = c.propose-proposal.result in
     let proposes = subst (λ d. Proposes d c.args.marginal_value c.args.terms.now proposal) (c.regions.ensures ∙ ap declared_in c.state-state.ensures) c.propose-proposal.ensures.terms in
-    record {
-      answer =
-          rw (p.1, p.2)
+    rw (p.1, p.2)
           (claim_late c.args.number c.args.interval c.args.marginal_value c.args.terms.now c.args.part state proposal _ asked.answer proposes
           (ap (λ i. i.number) c.propose-proposal.ensures.interval ∙ asked.value) c.propose-proposal.ensures.part
-          (c.in_err-next.ensures.answer ∙ ap (λ s. table_fault s (Claim proposal)) c.state-state.ensures));
-      value = IfOk-from_err _ _ c.from_residual-in_err-next.ensures.0;
-      states = λ n. rw p.1 refl;
-      count = refl;
-      refused = λ _. refl;
-      told = λ h owed k. rw p.1 (kept_refused h _ _ owed k);
-    }
+          (c.in_err-next.ensures.answer ∙ ap (λ s. table_fault s (Claim proposal)) c.state-state.ensures))
 
-pub put-requires : goal.put-requires
-put-requires c =
-    let book = c.args.self.now in
-    let sound = ap (is_sound book.made) c.state-state.ensures ∙ book.sound c.args.number in
-    record {
-      number = request_number c.args.number c.args.interval c.args.marginal_value c.args.terms.now (sym c.in_ok-week_interval.ensures.answer);
-      sound = ap (is_sound book.made) c.in_ok-next.ensures.value ∙ sound_claim book.made c.state-state.result c.propose-proposal.result sound (sym c.in_ok-next.ensures.answer);
-    }
+pub returns-in_err-next-clause-told : goal.returns-in_err-next-clause-told
+returns-in_err-next-clause-told c =
+    let p = err_from_is_err_and c.from_residual-in_err-next.result c.from_residual-in_err-next.ensures.1 in
+    λ h owed k. rw p.1 (kept_refused h _ _ owed k)
 
-pub returns : goal.returns
-returns c =
+pub returns-clause-answer : goal.returns-clause-answer
+returns-clause-answer c =
+    let states = state_in c.args.self.now.states in
+    let state = states c.args.number in
+    let asked = c.in_ok-week_interval.ensures in
+    let proposal = c.propose-proposal.result in
+    let is = c.propose-proposal.ensures in
+    let proposes = subst (λ d. Proposes d c.args.marginal_value c.args.terms.now proposal) (c.regions.ensures ∙ ap declared_in c.state-state.ensures) is.terms in
+    let none = claim_late c.args.number c.args.interval c.args.marginal_value c.args.terms.now c.args.part state proposal None asked.answer proposes (ap (λ i. i.number) is.interval ∙ asked.value) is.part
+    (c.in_ok-next.ensures.answer ∙ ap (λ s. table_fault s (Claim proposal)) c.state-state.ensures) in
+    none
+
+pub returns-clause-told : goal.returns-clause-told
+returns-clause-told c =
     let states = state_in c.args.self.now.states in
     let state = states c.args.number in
     let asked = c.in_ok-week_interval.ensures in
@@ -84,11 +74,4 @@ returns c =
     let number = ap (λ f. f.number) value in
     let serial = ap (λ f. f.serial) value in
     let same : figures_of c.of.result.figures ≡ record { number = c.args.number; serial = serial_in state; interval = c.of.result.figures.interval.number; part = c.of.result.figures.part } = λ i. record { number = number i; serial = serial i; interval = c.of.result.figures.interval.number; part = c.of.result.figures.part } in
-    record {
-      answer = none;
-      value = value;
-      states = after;
-      told = λ h owed k. rw c.put.ensures.count (told_claim h _ _ _ c.args.number c.args.interval c.args.marginal_value c.args.terms.now c.args.part (record { interval = c.of.result.figures.interval; part = c.of.result.figures.part }) (figures_of c.of.result.figures) owed (sym none) after same k);
-      count = c.put.ensures.count;
-      refused = λ wrong. absurd (let z : ◌≡◌ {A = ℕ} 0 1 = cc in omega arith);
-    }
+    λ h owed k. rw c.put.ensures.count (told_claim h _ _ _ c.args.number c.args.interval c.args.marginal_value c.args.terms.now c.args.part (record { interval = c.of.result.figures.interval; part = c.of.result.figures.part }) (figures_of c.of.result.figures) owed (sym none) after same k)

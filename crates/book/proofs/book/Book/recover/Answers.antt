@@ -1,11 +1,10 @@
-use Rattle.std.proofs.Common.{◌≡◌, ℕ, ◌+◌, ◌≤◌, ◌∷◌, None, sym, refl, ap, ◌∙◌, subst, arith}
-use Rattle.std.proofs.lemmas.Result.{err_from_is_err_and, IfOk-from_err}
-use Rattle.foundation.specs.Fault.{told}
-use Rattle.recovery.specs.Recovery.{Outcome, lowered, recover_fault}
-use Rattle.recovery.specs.Shares.{Shared, basis_of, lines_of, share_paid}
+use Rattle.std.proofs.Common.{◌≡◌, ℕ, ◌∷◌, None, sym, refl, ap, ◌∙◌, subst}
+use Rattle.std.proofs.lemmas.Result.{err_from_is_err_and}
+use Rattle.recovery.specs.Recovery.{lowered, recover_fault}
+use Rattle.recovery.specs.Shares.{Shared, basis_of, share_paid}
 use Rattle.book.specs.declared.state.table.Event.TheVariants.{Recover}
 use Rattle.book.specs.Calls.{changed, declared_in, recovered_state}
-use Rattle.book.specs.States.{is_sound, state_in}
+use Rattle.book.specs.States.{state_in}
 use Rattle.book.specs.Table.{table_fault}
 use Rattle.book.specs.History.{refused as refused-event}
 use Rattle.book.specs.Kept.{Kept}
@@ -13,30 +12,16 @@ use Rattle.book.proofs.Histories.{kept_refused}
 use Rattle.book.proofs.Telling.{number_from, open_from, told_recover}
 use Rattle.book.proofs.Judged.{recover_table}
 use Rattle.book.proofs.Nexts.{recover_next}
-use Rattle.book.proofs.Open.{open_number, recovery_early, recovery_late}
-use Rattle.book.proofs.Soundness.{sound_recovered}
+use Rattle.book.proofs.Open.{open_number, recovery_late}
 use Rattle.book.proofs.book.Book.recover.Goals as goal
 
-pub returns-in_err-next : goal.returns-in_err-next
-returns-in_err-next g c =
+pub returns-in_err-next-clause-told : goal.returns-in_err-next-clause-told
+returns-in_err-next-clause-told g c =
     let p = err_from_is_err_and c.from_residual.result c.from_residual.ensures.1 in
-    let state = state_in c.args.self.now.states c.args.claim.number in
-    let b = basis_of c.args.claim.part c.args.factors.now (g.E.EnergySource.kwh c.args.source.now) in
-    record {
-      answer = rw (p.1, p.2) (recovery_early state c.args.claim b (g.L.Ledger.room c.args.ledger.now) (told c.in_err-next.field-0.0) (c.in_err-next.ensures.answer ∙ ap (λ s. table_fault s (Recover c.args.claim)) c.state-state.ensures));
-      value = IfOk-from_err _ _ c.from_residual.ensures.0;
-      law = IfOk-from_err _ _ c.from_residual.ensures.0;
-      states = λ n. rw p.1 refl;
-      count = refl;
-      amounts = λ q s. rw p.1 refl;
-      falls = rw p.1 refl;
-      refused = λ _. refl;
-      unposted = λ _. refl;
-      told = λ h k. rw p.1 (kept_refused h _ _ _ k);
-    }
+    λ h k. rw p.1 (kept_refused h _ _ _ k)
 
-pub returns-in_err-outcome : goal.returns-in_err-outcome
-returns-in_err-outcome g c =
+pub returns-in_err-outcome-clause-answer : goal.returns-in_err-outcome-clause-answer
+returns-in_err-outcome-clause-answer g c =
     let p = err_from_is_err_and c.from_residual-in_err-outcome.result c.from_residual-in_err-outcome.ensures.1 in
     let book = c.args.self.now in
     let claim = c.args.claim in
@@ -46,32 +31,27 @@ returns-in_err-outcome g c =
     let regions = c.regions.ensures ∙ ap declared_in c.state-state.ensures in
     let held = c.in_ok-next.ensures.answer ∙ ap (λ s. table_fault s (Recover claim)) c.state-state.ensures in
     let refused = c.in_err-outcome.ensures in
-    let states = state_in book.states in
-    record {
-      answer = rw (p.1, p.2) (recovery_late book.made state claim b left _ book.few (book.sound claim.number) held refl (refused.answer ∙ ap (λ d. recover_fault d b claim.serial left) regions));
-      value = IfOk-from_err _ _ c.from_residual-in_err-outcome.ensures.0;
-      law = IfOk-from_err _ _ c.from_residual-in_err-outcome.ensures.0;
-      states = λ n. rw p.1 refl;
-      count = refl;
-      amounts = λ q s. rw p.1 (refused.amounts q s);
-      falls = rw p.1 refused.falls;
-      refused = λ _. refl;
-      unposted = λ _. refused.refused refl;
-      told = λ h k. rw p.1 (subst (λ l. Kept (refused-event ∷ h) states book.made (g.L.Ledger.owed l)) (sym (refused.refused refl)) (kept_refused h _ _ _ k));
-    }
+    rw (p.1, p.2) (recovery_late book.made state claim b left _ book.few (book.sound claim.number) held refl (refused.answer ∙ ap (λ d. recover_fault d b claim.serial left) regions))
 
-pub put-requires : goal.put-requires
-put-requires g c =
+pub returns-in_err-outcome-clause-told : goal.returns-in_err-outcome-clause-told
+returns-in_err-outcome-clause-told g c =
+    let p = err_from_is_err_and c.from_residual-in_err-outcome.result c.from_residual-in_err-outcome.ensures.1 in
+    let book = c.args.self.now in
+    let refused = c.in_err-outcome.ensures in
+    let states = state_in book.states in
+    λ h k. rw p.1 (subst (λ l. Kept (refused-event ∷ h) states book.made (g.L.Ledger.owed l)) (sym (refused.refused refl)) (kept_refused h _ _ _ k))
+
+pub returns-clause-states : goal.returns-clause-states
+returns-clause-states g c =
     let book = c.args.self.now in
     let claim = c.args.claim in
-    let held = c.in_ok-next.ensures.answer ∙ ap (λ s. table_fault s (Recover claim)) c.state-state.ensures in
-    record {
-      number = open_number book.states claim.number claim (held ∙ recover_table (state_in book.states claim.number) claim);
-      sound = ap (is_sound book.made) c.in_ok-next.ensures.value ∙ sound_recovered book.made c.state-state.result claim (ap (is_sound book.made) c.state-state.ensures ∙ book.sound claim.number);
-    }
+    let states = state_in book.states in
+    let state = states claim.number in
+    let after-states : (n : ℕ) → state_in c.put.new.self.states n ≡ changed claim.number (recovered_state state) states n = λ n. c.put.ensures.states n ∙ ap (λ s. changed claim.number s states n) (c.in_ok-next.ensures.value ∙ recover_next c.state-state.result claim ∙ ap recovered_state c.state-state.ensures) in
+    after-states
 
-pub returns : goal.returns
-returns g c =
+pub returns-clause-told : goal.returns-clause-told
+returns-clause-told g c =
     let book = c.args.self.now in
     let claim = c.args.claim in
     let states = state_in book.states in
@@ -79,24 +59,11 @@ returns g c =
     let b = basis_of claim.part c.args.factors.now (g.E.EnergySource.kwh c.args.source.now) in
     let owed = g.L.Ledger.owed c.args.ledger.now in
     let before = g.L.Ledger.room c.args.ledger.now in
-    let after = g.L.Ledger.room c.recover.new.ledger in
     let regions = c.regions.ensures ∙ ap declared_in c.state-state.ensures in
     let held = c.in_ok-next.ensures.answer ∙ ap (λ s. table_fault s (Recover claim)) c.state-state.ensures in
-    let outcome = c.in_ok-outcome.outcome in
     let done = c.in_ok-outcome.ensures in
     let none = recovery_late book.made state claim b before None book.few (book.sound claim.number) held refl (done.answer ∙ ap (λ d. recover_fault d b claim.serial before) regions) in
     let after-states : (n : ℕ) → state_in c.put.new.self.states n ≡ changed claim.number (recovered_state state) states n = λ n. c.put.ensures.states n ∙ ap (λ s. changed claim.number s states n) (c.in_ok-next.ensures.value ∙ recover_next c.state-state.result claim ∙ ap recovered_state c.state-state.ensures) in
     let amounts : (q s : ℕ) → g.L.Ledger.owed c.recover.new.ledger q s ≡ lowered (share_paid (declared_in state) b) 64 claim.serial owed q s = λ q s. done.amounts q s ∙ ap (λ d. lowered (share_paid d b) 64 claim.serial owed q s) regions in
     let law = subst (λ d. Shared d b (share_paid d b)) regions done.law in
-    record {
-      answer = none;
-      value = subst (λ d. Outcome d b outcome.0 outcome.1 outcome.2) regions done.value;
-      law = law;
-      states = after-states;
-      count = c.put.ensures.count;
-      amounts = amounts;
-      told = λ h k. rw c.put.ensures.count (told_recover h _ _ _ claim.number claim owed _ c.args.factors.now (g.E.EnergySource.kwh c.args.source.now) (number_from claim.number (open_number book.states claim.number claim (held ∙ recover_table state claim))).0 (number_from claim.number (open_number book.states claim.number claim (held ∙ recover_table state claim))).1 refl (book.sound claim.number) (open_from state claim b before (sym none)) law.weighed after-states amounts k);
-      falls = subst (λ d. (before ≤ after + lines_of d b) × (after ≤ before)) regions done.falls;
-      refused = λ wrong. absurd (let z : ◌≡◌ {A = ℕ} 0 1 = cc in omega arith);
-      unposted = λ wrong. absurd (let z : ◌≡◌ {A = ℕ} 0 1 = cc in omega arith);
-    }
+    λ h k. rw c.put.ensures.count (told_recover h _ _ _ claim.number claim owed _ c.args.factors.now (g.E.EnergySource.kwh c.args.source.now) (number_from claim.number (open_number book.states claim.number claim (held ∙ recover_table state claim))).0 (number_from claim.number (open_number book.states claim.number claim (held ∙ recover_table state claim))).1 refl (book.sound claim.number) (open_from state claim b before (sym none)) law.weighed after-states amounts k)
