@@ -30,9 +30,9 @@ returns-in_err-next-clause-answer c =
     let proposal = c.propose-proposal.result in
     let proposes = subst (λ d. Proposes d c.args.marginal_value c.args.terms.now proposal) (c.regions.ensures ∙ ap declared_in c.state-state.ensures) c.propose-proposal.ensures.terms in
     rw (p.1, p.2)
-          (claim_late c.args.number c.args.interval c.args.marginal_value c.args.terms.now c.args.part state proposal _ asked.answer proposes
-          (ap (λ i. i.number) c.propose-proposal.ensures.interval ∙ asked.value) c.propose-proposal.ensures.part
-          (c.in_err-next.ensures.answer ∙ ap (λ s. table_fault s (Claim proposal)) c.state-state.ensures))
+    (claim_late c.args.number c.args.interval c.args.marginal_value c.args.terms.now c.args.part state proposal _ asked.answer proposes
+    (ap (λ i. i.number) c.propose-proposal.ensures.interval ∙ asked.value) c.propose-proposal.ensures.part
+    (c.in_err-next.ensures.answer ∙ ap (λ s. table_fault s (Claim proposal)) c.state-state.ensures))
 
 pub returns-in_err-next-clause-told : goal.returns-in_err-next-clause-told
 returns-in_err-next-clause-told c =

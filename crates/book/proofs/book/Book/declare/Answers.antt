@@ -22,8 +22,8 @@ returns-in_err-next-clause-answer c =
     let book = c.args.self.now in
     let kind = c.in_ok-asked.asked in
     rw (p.1, p.2)
-          (declare_late c.args.number c.args.kind c.args.regions (state_in book.states c.args.number) book.made kind _ c.in_ok-asked.ensures.answer
-          (c.in_err-next.ensures.answer ∙ ap (λ s. table_fault s (Declare kind c.args.regions book.made)) c.state.ensures))
+    (declare_late c.args.number c.args.kind c.args.regions (state_in book.states c.args.number) book.made kind _ c.in_ok-asked.ensures.answer
+    (c.in_err-next.ensures.answer ∙ ap (λ s. table_fault s (Declare kind c.args.regions book.made)) c.state.ensures))
 
 pub returns-in_err-next-clause-told : goal.returns-in_err-next-clause-told
 returns-in_err-next-clause-told c =
