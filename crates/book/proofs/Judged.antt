@@ -17,10 +17,7 @@ use Rattle.foundation.specs.Interval.{after}
 use Rattle.book.specs.States.{is_claimed, is_free_state}
 use Rattle.book.specs.Table.{is_fitting, proposal_fault, table_fault}
 
--- a refusal of the first step, and an answer of the second
-early : (f : Refused) (a b whole : Option Refused) → whole ≡ or_else a b → Some f ≡ a → Some f ≡ whole
-early f a b whole e p = ap (λ x. or_else x b) p ∙ sym e
-
+-- an answer of the second step
 late : (o a b whole : Option Refused) → whole ≡ or_else a b → None ≡ a → o ≡ b → o ≡ whole
 late o a b whole e none p = p ∙ ap (λ x. or_else x b) none ∙ sym e
 
@@ -85,7 +82,7 @@ claim_table (state.Claimed d q) value ts p is = refl
 claim_split : (n interval value : ℕ) (ts : List Term) (part : ℕ) (s : State) → claim_fault n interval value ts part s ≡ or_else (request_fault n interval value ts) (state_fault s interval value ts part)
 claim_split n interval value ts part s = five (unless_in 3 (leb (length ts) 10) 1 0) (number_fault n) (unless_in 3 (leb interval 2015) 2 0) (unless_in 3 (leb value 2000000) 2 0) (terms_fault ts) (state_fault s interval value ts part)
 
--- and one that the table answered
+-- a claim that the table answered
 pub claim_late : (n interval value : ℕ) (ts : List Term) (part : ℕ) (s : State) (p : Proposal) (o : Option Refused) → None ≡ request_fault n interval value ts → Proposes (declared_in s) value ts p → p.interval.number ≡ interval → p.part ≡ part → o ≡ table_fault s (Claim p) → o ≡ claim_fault n interval value ts part s
 claim_late n interval value ts part s p o none is at paid e =
     late o (request_fault n interval value ts) (state_fault s interval value ts part) _ (claim_split n interval value ts part s) none

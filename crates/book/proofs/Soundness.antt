@@ -1,19 +1,15 @@
 -- What the states hold stays in range, whatever the table makes of them.
-use Rattle.std.proofs.Common.{◌≡◌, ℕ, suc, ◌-◌, ◌≤◌, Bool, true, false, cond, not, ◌&&◌, eqb, leb, List, length, set, None, sym, refl, ap, ◌∙◌, arith, true-eqb}
+use Rattle.std.proofs.Common.{◌≡◌, ℕ, suc, ◌-◌, ◌≤◌, Bool, true, false, cond, ◌&&◌, eqb, leb, List, length, set, None, sym, refl, ap, ◌∙◌, arith, true-eqb}
 use Rattle.std.proofs.lemmas.Bool.{leb-true}
 use Rattle.std.proofs.lemmas.Bool.Decides.{nat_tests}
 use Rattle.foundation.specs.Fault.{refused_in}
 use Rattle.foundation.proofs.First.{some_none}
 use Rattle.book.specs.declared.claim.OpenClaim.{OpenClaim}
 use Rattle.book.specs.declared.state.Declaration.{Declaration}
-use Rattle.book.specs.declared.state.Kind.{Kind}
-use Rattle.book.specs.declared.state.Kind.TheVariants.{Regulation, Delayed}
 use Rattle.book.specs.declared.state.State.{State}
 use Rattle.book.specs.declared.state.State.TheVariants.{Free, Declared, Claimed}
-use Rattle.book.specs.declared.state.table.Proposal.{Proposal}
 use Rattle.book.specs.Calls.{declared_in, is_open, not_open}
 use Rattle.book.specs.States.{is_declaration, is_number, is_sound, state_in}
-use Rattle.book.specs.Table.{is_fitting}
 use Rattle.book.proofs.Slots.{written}
 use Rattle.book.proofs.Terms.{and_first, and_second, unless_none}
 
@@ -32,16 +28,6 @@ one_of false made s t h k = k
 -- one number's state is written
 pub sound_written : (made n : ℕ) (s : State) (states : List State) → is_number n ≡ true → length states ≡ 16 → is_sound made s ≡ true → ((k : ℕ) → is_sound made (state_in states k) ≡ true) → (k : ℕ) → is_sound made (state_in (set states (n - 1) s) k) ≡ true
 sound_written made n s states isn long new old k = ap (is_sound made) (written states n s isn long k) ∙ one_of (eqb k n) made s (state_in states k) new (old k)
-
-fits : (k : Kind) (p : Proposal) → is_fitting k p ≡ true → p.part ≤ p.payment
-fits Regulation p h = omega (arith, true-eqb p.part p.payment (sym (and_second (not p.delayed) (eqb p.part p.payment) h)))
-fits Delayed p h = leb-true p.part p.payment h
-
-both : (a b : Bool) → a ≡ true → b ≡ true → (a && b) ≡ true
-both a b h k = ap (λ t. t && b) h ∙ k
-
-in_range : (low high n : ℕ) → low ≤ n → n ≤ high → (leb low n && leb n high) ≡ true
-in_range low high n h k = grind (arith, nat_tests)
 
 -- what the claim that a number holds open has: a part, regions and a serial in range
 pub record Fair (s : State) (c : OpenClaim) : Type 0 where
