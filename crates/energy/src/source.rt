@@ -2,6 +2,8 @@
 ghost use Rattle.std.specs.Prelude.{◌≡◌, ℕ, ◌≤◌};
 ghost use Rattle.energy.specs.Energy.{seen, total_of, grand};
 
+// Parties and regions are numbers, as any can be asked for. Inner functions ask for one in range: a type for it would be made of a
+// number that was just judged, and taken apart at the next array.
 pub const PARTIES: u16 = 64;
 
 pub const REGIONS: u8 = 5;

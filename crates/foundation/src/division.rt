@@ -30,6 +30,7 @@ pub fn divide(amount: u64, weights: &[u64], shares: &mut [u64])
     let whole = total(weights);
     let mut reached = 0;
     let mut given = 0;
+    // Shares go by their place: beside another iterator nothing is known of what `iter_mut` wrote.
     for (k, weight) in weights.iter().enumerate() {
         reached += *weight;
         let next = portion(amount, reached, whole);

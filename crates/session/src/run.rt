@@ -140,6 +140,7 @@ pub fn run<E: EnergySource, L: Ledger>(
     ensures told { (h : History) → Kept h (state_in book.old.states) book.old.made (L.Ledger.owed ledger.old) → Kept (run_through calls.now answers.new factors.now (E.EnergySource.kwh source.now) h) (state_in book.new.states) book.new.made (L.Ledger.owed ledger.new) }
     ensures law { (h : History) → Kept h (state_in book.old.states) book.old.made (L.Ledger.owed ledger.old) → Settled (run_through calls.now answers.new factors.now (E.EnergySource.kwh source.now) h) (λ n. held_in n (state_in book.new.states n)) (L.Ledger.owed ledger.new) }
 {
+    // Answers go by their place: beside another iterator nothing is known of what `iter_mut` wrote.
     for (k, asked) in calls.iter().enumerate() {
         answers[k] = call(book, *asked, factors, source, ledger);
     }

@@ -79,7 +79,7 @@ impl Exact {
         }
     }
 
-    // The part in the proportion of a weight to all weights.
+    // The part in the proportion of a weight to all weights. The bounds are asked for here, since a test makes a fraction without a split.
     fn of_weight(part: u64, weight: u32, weights: u32) -> Exact
         requires part { part ≤ 200000000000 }
         requires some { 0 < weights }
