@@ -34,7 +34,6 @@ pub(crate) fn exactly<const N: usize>(words: &[&str], most: u64) -> Result<[u64;
     if words.len() != N {
         return Err(NoStep::Unknown);
     }
-    // Not by `try_from_fn`, which does not say of an error that some word writes no number.
     let mut numbers = [0; N];
     for (k, word) in words.iter().enumerate() {
         numbers[k] = number(*word, most)?;
