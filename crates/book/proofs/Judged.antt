@@ -13,8 +13,7 @@ use Rattle.book.specs.declared.state.table.Proposal.{Proposal}
 use Rattle.book.specs.declared.term.Term.{Term}
 use Rattle.book.specs.Calls.{claim_fault, declare_fault, declared_in, is_right_part, not_open, number_fault, payment, service_at, state_fault, under_fault, withdraw_fault}
 use Rattle.book.specs.Checks.{Proposes, declaration_fault, is_delayed, kind_fault, outer_fault, request_fault, set_fault, terms_fault}
-use Rattle.foundation.specs.Interval.{after}
-use Rattle.book.specs.States.{is_claimed, is_free_state}
+use Rattle.book.specs.States.{after, is_claimed, is_free_state}
 use Rattle.book.specs.Table.{is_fitting, proposal_fault, table_fault}
 
 -- an answer of the second step

@@ -18,8 +18,7 @@ use Rattle.book.specs.declared.state.State.{State}
 use Rattle.book.specs.declared.state.State.TheVariants as state
 use Rattle.book.specs.declared.term.Term.{Term}
 use Rattle.book.specs.History.{Claimed, Event, claimed, declared, recovered, refused, returned, withdrawn}
-use Rattle.foundation.specs.Interval.{after}
-use Rattle.book.specs.States.{is_claimed, is_free_state, is_number}
+use Rattle.book.specs.States.{after, is_claimed, is_free_state, is_number}
 
 abbrev pub number_fault : ℕ → Option Refused
 number_fault n = unless_in 3 (is_number n) 2 0

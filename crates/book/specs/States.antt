@@ -1,5 +1,6 @@
 -- What the state of a number says.
-use Rattle.std.specs.Prelude.{ℕ, ◌-◌, Bool, true, false, cond, ◌&&◌, List, nat_le, slice_index_or}
+use Rattle.std.specs.Prelude.{ℕ, suc, ◌-◌, Bool, true, false, cond, ◌&&◌, List, Some, None, Option, nat_le, slice_index_or}
+use Rattle.foundation.specs.declared.interval.WeekInterval.{WeekInterval}
 use Rattle.book.specs.declared.state.Declaration.{Declaration}
 use Rattle.book.specs.declared.state.State.{State}
 use Rattle.book.specs.declared.state.State.TheVariants.{Free, Declared, Claimed}
@@ -21,6 +22,11 @@ abbrev pub is_claimed : State → Bool
 is_claimed Free = false
 is_claimed (Declared d) = false
 is_claimed (Claimed d p) = true
+
+-- the first interval above the last one recovered
+abbrev pub after : Option WeekInterval → ℕ
+after None = 0
+after (Some i) = suc i.number
 
 -- a declaration with its serial and regions in range
 abbrev pub is_declaration : (made : ℕ) → Declaration → Bool

@@ -14,7 +14,7 @@ use Rattle.book.specs.declared.state.table.Event.{Event}
 use Rattle.book.specs.declared.state.table.Event.TheVariants.{Declare, Withdraw, Claim, Recover, HandBack}
 use Rattle.book.specs.declared.state.table.Proposal.{Proposal}
 use Rattle.book.specs.Calls.{not_open, recovered_state, returned_state}
-use Rattle.foundation.specs.Interval.{after}
+use Rattle.book.specs.States.{after}
 
 -- a refusal of the book that has no place
 abbrev pub in_book : Refusal → Fault

@@ -2,5 +2,4 @@ pub mod Bytes
 pub mod Division
 pub mod Fault
 pub mod First
-pub mod Interval
 pub mod Sums

@@ -1,34 +1,55 @@
-// Dispatch intervals of five minutes, of two kinds that are never taken for one another.
+// Dispatch intervals of five minutes, of two kinds that are never taken for one another: two structs, each with its own limit, and not
+// one with its limit as a parameter, so that each says its period where it is read.
 ghost use Rattle.std.specs.Prelude.{◌≡◌, ◌<◌, ◌≤◌, MatchOption};
 
-// An interval of a period, by its number from 0 to LAST.
+// An interval of the sample period of 28 days.
 #[derive(Clone, Copy, PartialEq, Eq, PartialOrd, Ord, Debug)]
-pub struct Interval<const LAST: u16> {
+pub struct SampleInterval {
     number: u16,
-    ghost within: { number ≤ LAST },
+    ghost within: { number ≤ 8063 },
 }
 
-// An interval of the sample period of 28 days.
-pub type SampleInterval = Interval<8_063>;
+impl SampleInterval {
+    pub const LAST: u16 = 8_063;
 
-// An interval of the billing week.
-pub type WeekInterval = Interval<2_015>;
-
-impl<const LAST: u16> Interval<LAST> {
-    pub const LAST: u16 = LAST;
-
-    pub fn new(number: u16) -> Option<Interval<LAST>>
-        ensures { MatchOption result (LAST < number) (λ i. i.number ≡ number) }
+    pub fn new(number: u16) -> Option<SampleInterval>
+        ensures { MatchOption result (8063 < number) (λ i. i.number ≡ number) }
     {
-        if number > LAST {
+        if number > SampleInterval::LAST {
             return None;
         }
-        Some(Interval { number })
+        Some(SampleInterval { number })
     }
 
     pub fn number(self) -> u16
-        ensures { result ≡ self.entry.number }
+        ensures { result ≡ self.number }
     {
-        self.number
+        self.number // in the sample period
+    }
+}
+
+// An interval of the billing week.
+#[derive(Clone, Copy, PartialEq, Eq, PartialOrd, Ord, Debug)]
+pub struct WeekInterval {
+    number: u16,
+    ghost within: { number ≤ 2015 },
+}
+
+impl WeekInterval {
+    pub const LAST: u16 = 2_015;
+
+    pub fn new(number: u16) -> Option<WeekInterval>
+        ensures { MatchOption result (2015 < number) (λ i. i.number ≡ number) }
+    {
+        if number > WeekInterval::LAST {
+            return None;
+        }
+        Some(WeekInterval { number })
+    }
+
+    pub fn number(self) -> u16
+        ensures { result ≡ self.number }
+    {
+        self.number // in the week
     }
 }

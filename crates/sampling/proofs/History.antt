@@ -14,8 +14,7 @@ use Rattle.sampling.specs.declared.state.Sampling.{Sampling}
 use Rattle.sampling.specs.Accepted.{meets}
 use Rattle.sampling.specs.Factors.{Published}
 use Rattle.sampling.specs.History.{Event, Gone, registered, offered, owners_in, accepted, next, total_in, sampled_in}
-use Rattle.foundation.specs.Interval.{after}
-use Rattle.sampling.specs.Interval.{in_samples, interval_fault}
+use Rattle.sampling.specs.Interval.{after, in_samples, interval_fault}
 use Rattle.sampling.specs.Records.{interval_at}
 use Rattle.sampling.specs.Registration.{registration_fault}
 use Rattle.sampling.specs.Units.{Added, added_by, new_unit, owner_at, sum_at, sampled}

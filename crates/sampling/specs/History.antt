@@ -5,7 +5,7 @@ use Rattle.foundation.specs.Sums.{listed}
 use Rattle.sampling.specs.declared.category.Category.{Category}
 use Rattle.sampling.specs.declared.state.Sampling.{Sampling}
 use Rattle.sampling.specs.Accepted.{meets}
-use Rattle.foundation.specs.Interval.{after}
+use Rattle.sampling.specs.Interval.{after}
 use Rattle.sampling.specs.Records.{interval_at}
 use Rattle.sampling.specs.Units.{added_by, owner_at, sum_at}
 use Rattle.sampling.specs.Weights.{Sampled}

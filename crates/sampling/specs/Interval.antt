@@ -1,5 +1,6 @@
 -- When an interval is refused, and when it is accepted.
-use Rattle.std.specs.Prelude.{ℕ, zero, suc, ◌*◌, Bool, false, cond, not, List, length, ℤ, pos, negsuc, Some, Option, ◌==◌, nat_le, unsigned_abs}
+use Rattle.std.specs.Prelude.{ℕ, zero, suc, ◌*◌, Bool, false, cond, not, List, length, ℤ, pos, negsuc, Some, None, Option, ◌==◌, nat_le, unsigned_abs}
+use Rattle.foundation.specs.declared.interval.SampleInterval.{SampleInterval}
 use Rattle.foundation.specs.Fault.{Refused, refused_in, unless_in}
 use Rattle.foundation.specs.First.{or_else, first_to}
 use Rattle.sampling.specs.Records.{Fields, fields_at, interval_at}
@@ -10,6 +11,11 @@ in_samples number place = refused_in 1 number place
 
 abbrev pub unless : Bool → ℕ → ℕ → Option Refused
 unless test number place = unless_in 1 test number place
+
+-- the first interval number that is above the last used one
+abbrev pub after : Option SampleInterval → ℕ
+after None = 0
+after (Some i) = suc i.number
 
 -- the mark of a missing sample, -32,768
 abbrev pub is_mark : ℤ → Bool

@@ -2,8 +2,7 @@
 ghost use Rattle.std.specs.Prelude.{◌≡◌, ℕ, suc, ◌+◌, ◌≤◌, length, pos, IfOk, Some, None, slice_index_or};
 ghost use Rattle.foundation.specs.Fault.{told, refusal};
 ghost use Rattle.foundation.specs.First.{or_else, first_to};
-ghost use Rattle.foundation.specs.Interval.{after};
-ghost use Rattle.sampling.specs.Interval.{value_fault, fields_fault, indicator_fault, unit_fault, interval_fault};
+ghost use Rattle.sampling.specs.Interval.{after, value_fault, fields_fault, indicator_fault, unit_fault, interval_fault};
 ghost use Rattle.sampling.specs.Records.{fields_of, interval_at};
 
 use crate::reader::{RECORD_BYTES, Record};

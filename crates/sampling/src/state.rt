@@ -1,6 +1,6 @@
 // A sampling: the units that are registered, and what the intervals used so far came to.
 ghost use Rattle.std.specs.Prelude.{◌≤◌, vec_len};
-ghost use Rattle.foundation.specs.Interval.{after};
+ghost use Rattle.sampling.specs.Interval.{after};
 ghost use Rattle.sampling.specs.Units.{Bounded};
 
 use crate::unit::Unit;

@@ -3,7 +3,7 @@ ghost use Rattle.std.specs.Prelude.{◌≡◌, IfOk, Err, nat_le};
 ghost use Rattle.foundation.specs.Fault.{refusal as fault_of};
 ghost use Rattle.book.specs.Calls.{declaration_in, declared_in, is_open, not_open, open_in, recovered_state, returned_state};
 ghost use Rattle.book.specs.Kept.{serial_in};
-ghost use Rattle.foundation.specs.Interval.{after};
+ghost use Rattle.book.specs.States.{after};
 ghost use Rattle.book.specs.Table.{in_book, is_fitting, proposal_fault, table_fault, table_state};
 
 use super::{Declaration, Kind, Pending, State};

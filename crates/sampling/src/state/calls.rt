@@ -2,8 +2,7 @@
 ghost use Rattle.std.specs.Prelude.{◌≡◌, suc, ◌<◌, true, List, [], ◌∷◌, map, length, is_err, IfOk, Some, None, vec_len, OnOk};
 ghost use Rattle.foundation.specs.Fault.{refusal};
 ghost use Rattle.foundation.specs.First.{first_to};
-ghost use Rattle.foundation.specs.Interval.{after};
-ghost use Rattle.sampling.specs.Interval.{in_samples, interval_fault};
+ghost use Rattle.sampling.specs.Interval.{in_samples, after, interval_fault};
 ghost use Rattle.sampling.specs.Records.{interval_at};
 ghost use Rattle.sampling.specs.Registration.{OrNoMemory, owners_fault, registration_fault};
 ghost use Rattle.sampling.specs.History.{Event, Gone, accepted, offered, owners_in, registration, sampled_in, total_in};

@@ -1,7 +1,6 @@
 use Rattle.std.proofs.Common.{◌≡◌, suc, ◌+◌, ◌≤◌, length, vec_items, sym, ap, ◌∙◌, subst, arith}
 use Rattle.std.proofs.lemmas.List.{with_items_is}
-use Rattle.foundation.specs.Interval.{after}
-use Rattle.sampling.specs.Interval.{interval_fault}
+use Rattle.sampling.specs.Interval.{after, interval_fault}
 use Rattle.sampling.specs.Records.{Inside}
 use Rattle.sampling.specs.Units.{Added, Bounded}
 use Rattle.sampling.proofs.Accepted.{inside, not_below}
