@@ -1,15 +1,11 @@
 -- What was read of a record tells its fault by the bytes.
-use Rattle.std.proofs.Common.{◌≡◌, ℕ, zero, suc, ◌+◌, ◌-◌, ◌*◌, ◌<◌, List, [], length, get_or, take, drop, pos, Some, None, sym, ap, ◌∙◌, subst, add-one, arith}
-use Rattle.std.proofs.lemmas.Grind.{get_or_after_one}
-use Rattle.std.proofs.lemmas.List.{get_or-take}
-use Rattle.std.specs.Simd.{first_chunks}
+use Rattle.std.proofs.Common.{◌≡◌, ℕ, zero, suc, ◌*◌, ◌<◌, List, length, get_or, pos, Some, None, sym, ap, ◌∙◌, subst, arith}
 use Rattle.std.proofs.lemmas.Bool.Decides.{nat_tests}
 use Rattle.foundation.specs.Fault.{Refused}
 use Rattle.foundation.specs.First.{first_to}
 use Rattle.foundation.proofs.First.{first_to_eq, first_to_all, first_to_at}
 use Rattle.sampling.specs.declared.reader.Record.{Record}
-use Rattle.sampling.specs.Records.{Holds, IsRecord, fields_of, fields_at, interval_at, value_at}
-use Rattle.foundation.proofs.Chunks.{chunk_at}
+use Rattle.sampling.specs.Records.{Holds, fields_of, fields_at, interval_at, value_at}
 use Rattle.sampling.specs.Interval.{value_fault, fields_fault, indicator_fault, unit_fault, record_fault, interval_fault}
 
 fields_held : (b : List ℕ) (r : ℕ) (x : Record) (expected most limit : ℕ) → Holds b r x → fields_fault x.place expected most limit (fields_of x) ≡ fields_fault r expected most limit (fields_at b r)
@@ -27,15 +23,8 @@ pub unit_held : (b : List ℕ) (least i u : ℕ) (x : Record) → i ≡ interval
 unfolding record_fault
 unit_held b least i u x e h = rw (fields_held b (suc u) x u 3 20000 h, h.at, h.interval, e)
 
--- what was read of the first chunk, and of a chunk after it
-pub held_first : (b : List ℕ) (records : List (List ℕ)) (n : ℕ) (x : Record) → records ≡ first_chunks 156 n b → 0 < n → ((d : List ℕ) → IsRecord d 0 (get_or records 0 []) → Holds d 0 x) → Holds b 0 x
-held_first b records n x e l h = h b (λ i m. ap (λ rs. get_or (get_or rs 0 []) i 0) e ∙ chunk_at 156 n b 0 i l m)
-
-pub held_after : (b : List ℕ) (records : List (List ℕ)) (n u : ℕ) (x : Record) → records ≡ first_chunks 156 n b → length records ≡ n → suc u < n → ((d : List ℕ) → IsRecord d (u + 1) (get_or (take (length records - 1) (drop 1 records)) u []) → Holds d (u + 1) x) → Holds b (suc u) x
-held_after b records n u x e long l h =
-    let one = add-one u in
-    let chunk : get_or (take (length records - 1) (drop 1 records)) u [] ≡ get_or (first_chunks 156 n b) (suc u) [] = get_or-take (length records - 1) (drop 1 records) u [] (omega arith) ∙ get_or_after_one records u [] ∙ ap (λ r. get_or records r []) (omega arith) ∙ ap (λ rs. get_or rs (suc u) []) e in
-    subst (λ r. Holds b r x) one (h b (λ i m. ap (λ c. get_or c i 0) chunk ∙ chunk_at 156 n b (suc u) i l m ∙ ap (λ r. get_or b (156 * r + i) 0) (sym one)))
+pub held_at : (b b' : List ℕ) (r r' : ℕ) (x : Record) → b ≡ b' → r ≡ r' → Holds b r x → Holds b' r' x
+held_at b b' r r' x e f h = subst (λ (y : List ℕ). Holds y r' x) e (subst (λ (k : ℕ). Holds b k x) f h)
 
 -- no fault in the first records
 before : (least : ℕ) (b : List ℕ) (u : ℕ) → record_fault least b 0 ≡ None → ((k : ℕ) → k < u → record_fault 0 b (suc k) ≡ None) → (k : ℕ) → k < suc u → record_fault least b k ≡ None

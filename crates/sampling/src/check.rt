@@ -5,7 +5,7 @@ ghost use Rattle.foundation.specs.First.{or_else, first_to};
 ghost use Rattle.sampling.specs.Interval.{after, value_fault, fields_fault, indicator_fault, unit_fault, interval_fault};
 ghost use Rattle.sampling.specs.Records.{fields_of, interval_at};
 
-use crate::reader::{RECORD_BYTES, Record};
+use crate::reader::{RECORD_BYTES, Reader, Record};
 use foundation::fault::{Fault, Layer, Refusal};
 use foundation::interval::SampleInterval;
 
@@ -97,10 +97,12 @@ pub(crate) fn check_interval(
     if bytes.len() != RECORD_BYTES * (units + 1) {
         return Err(Layer::Samples.fault(Refusal::WrongLength, 0));
     }
-    let (records, _) = bytes.as_chunks::<RECORD_BYTES>();
-    let interval = check_indicator(&Record::read(0, &records[0]), last)?;
-    for (unit, record) in records[1..].iter().enumerate() {
-        check_unit(&Record::read(unit + 1, record), interval, unit as u16)?;
+    let mut reader = Reader::new(bytes);
+    let indicator = reader.read();
+    let interval = check_indicator(&indicator, last)?;
+    for unit in 0..units {
+        let sample = reader.read();
+        check_unit(&sample, interval, unit as u16)?;
     }
     Ok(interval)
 }

@@ -1,5 +1,5 @@
-// The records of a sample interval: the bytes are one record after another.
-ghost use Rattle.std.specs.Prelude.{◌≡◌, ℕ, ◌*◌, ◌<◌, List, length, pos, slice_index, slice_index_or};
+// The records of a sample interval, read in order from the bytes handed in.
+ghost use Rattle.std.specs.Prelude.{◌≡◌, ℕ, suc, ◌*◌, ◌<◌, ◌≤◌, List, length, pos, slice_index, slice_index_or};
 ghost use Rattle.std.specs.Int.{w16};
 ghost use Rattle.std.proofs.Common.{to_z};
 ghost use Rattle.foundation.specs.Bytes.{number_at};
@@ -44,5 +44,34 @@ impl Record {
             zero,
             values: decoded(&bytes[6..]),
         }
+    }
+}
+
+// Walks the records of an interval's bytes.
+#[derive(Drop)]
+pub struct Reader<'a> {
+    bytes: &'a [u8],
+    place: usize,
+}
+
+impl<'a> Reader<'a> {
+    pub(crate) fn new(bytes: &'a [u8]) -> Reader<'a>
+        ensures lent { result.bytes.now ≡ bytes.now }
+        ensures start { result.place ≡ 0 }
+    {
+        Reader { bytes, place: 0 }
+    }
+
+    // The record at the reader's place, which moves on to the next.
+    pub(crate) fn read(&mut self) -> Record
+        requires { 156 * suc self.old.place ≤ length self.old.bytes.now }
+        ensures lent { self.new.bytes.now ≡ self.old.bytes.now }
+        ensures moved { self.new.place ≡ suc self.old.place }
+        ensures holds { Holds self.old.bytes.now self.old.place result }
+    {
+        let (records, _) = self.bytes.as_chunks::<RECORD_BYTES>();
+        let record = Record::read(self.place, &records[self.place]);
+        self.place += 1;
+        record
     }
 }

@@ -6,7 +6,7 @@ ghost use Rattle.sampling.specs.Units.{Added, Bounded, Within};
 ghost use Rattle.sampling.specs.Records.{Inside};
 
 use crate::category::{Category, Sums};
-use crate::reader::{RECORD_BYTES, Record, VALUES};
+use crate::reader::{Reader, VALUES};
 
 // The owner is the byte that was registered: its place in the tables of 65 owners.
 #[derive(Clone, Copy)]
@@ -22,27 +22,26 @@ fn products(indicator: &[i16; VALUES], values: &[i16; VALUES], raise: bool, lowe
     ensures { (c : Category) → sum_in result c ≡ sum_to_int 75 (λ k. product_in c (slice_index_or indicator.now k (pos 0)) raise lower (slice_index_or values.now k (pos 0))) }
 {
     let mut sums = Sums::default();
-    for (indicator, value) in indicator.iter().zip(values) {
-        sums.count(*indicator, raise, lower, *value);
+    for (k, value) in values.iter().enumerate() {
+        sums.count(indicator[k], raise, lower, *value);
     }
     sums
 }
 
-// Adds an accepted interval to each unit, from the records in order. The units go by their place: a loop over `iter_mut`
-// beside the records has no name for the slice, so no invariant could say what was written.
+// Adds an accepted interval to each unit, from the records in order.
 pub(crate) fn add_products(units: &mut [Unit], bytes: &[u8])
     requires few { length units.old ≤ 256 }
     requires bounded { Bounded 8063 units.old }
     requires inside { Inside (length units.old) bytes.now }
     ensures { Added bytes.now units.old units.new }
 {
-    let (records, _) = bytes.as_chunks::<RECORD_BYTES>();
-    let indicator = Record::read(0, &records[0]);
-    for (u, record) in records[1..].iter().enumerate() {
-        let sample = Record::read(u + 1, record);
+    let mut reader = Reader::new(bytes);
+    let indicator = reader.read();
+    for unit in units.iter_mut() {
+        let sample = reader.read();
         let raise = sample.enablement % 2 == 1;
         let lower = sample.enablement / 2 % 2 == 1;
         let sums = products(&indicator.values, &sample.values, raise, lower);
-        units[u].sums += sums;
+        unit.sums += sums;
     }
 }

@@ -1,37 +1,51 @@
-use Rattle.std.proofs.Common.{◌/◌, ◌%◌, ◌<◌, eqb, length, ◌+ℤ◌, nat_abs, ap, ◌∙◌, arith, rules}
+use Rattle.std.proofs.Common.{◌/◌, ◌%◌, eqb, length, ◌+ℤ◌, nat_abs, refl, ap, ◌∙◌, arith, rules}
 use Rattle.sampling.specs.Units.{sum_at}
-use Rattle.sampling.proofs.Records.{held_first, held_after}
+use Rattle.sampling.proofs.Records.{held_at}
 use Rattle.sampling.proofs.Units.{one_more, within_held, added_held, added_bound}
 use Rattle.sampling.proofs.unit.add_products.Goals as goal
 
+pub loop-unit-init : goal.loop-unit-init
+loop-unit-init c = record {
+  next = omega (arith, c.read-indicator.ensures.moved, c.new-reader.ensures.start);
+  lent = c.read-indicator.ensures.lent ∙ c.new-reader.ensures.lent;
+  sofar = record { owners = λ v. refl; done = λ v d l. absurd (omega arith); rest = λ v d l. refl };
+}
+
+pub read-sample-requires : goal.read-sample-requires
+read-sample-requires c = omega (arith, c.loop-unit.invariant.next, ap length c.loop-unit.invariant.lent, c.requires.inside.long)
+
 pub products-sums-requires : goal.products-sums-requires
 products-sums-requires c =
-    let first = held_first _ _ _ _ c.as_chunks.ensures.front (omega (arith, c.requires.inside.long)) c.read-indicator.ensures in
-    let held = held_after _ _ _ c.loop-u.u _ c.as_chunks.ensures.front c.as_chunks.ensures.front_len (omega (arith, c.loop-u-test.true)) c.read-sample.ensures in
+    let first = held_at _ _ _ _ _ c.new-reader.ensures.lent c.new-reader.ensures.start c.read-indicator.ensures.holds in
+    let held = held_at _ _ _ _ _ c.loop-unit.invariant.lent c.loop-unit.invariant.next c.read-sample.ensures.holds in
     record {
       indicated = within_held c.args.bytes.now 0 1560 c.read-indicator.result first (search rules) c.requires.inside.indicator;
-      deviated = within_held c.args.bytes.now _ 20000 c.read-sample.result held (search rules) (λ k l. c.requires.inside.deviations c.loop-u.u k (omega (arith, c.loop-u-test.true, c.as_chunks.ensures.front_len, c.requires.inside.long)) l);
+      deviated = within_held c.args.bytes.now _ 20000 c.read-sample.result held (search rules) (λ k l. c.requires.inside.deviations c.loop-unit.unit-index k (omega arith) l);
     }
 
 pub add_assign-requires : goal.add_assign-requires
 add_assign-requires c =
-    let first = held_first _ _ _ _ c.as_chunks.ensures.front (omega (arith, c.requires.inside.long)) c.read-indicator.ensures in
-    let held = held_after _ _ _ c.loop-u.u _ c.as_chunks.ensures.front c.as_chunks.ensures.front_len (omega (arith, c.loop-u-test.true)) c.read-sample.ensures in
-    let here : c.loop-u.u < length c.args.units.now = omega (arith, c.loop-u-test.true, c.as_chunks.ensures.front_len, c.requires.inside.long) in (
-      λ d. omega (arith, ap nat_abs (c.loop-u.invariant.rest c.loop-u.u d (omega arith)), c.requires.bounded c.loop-u.u d),
-      λ d. omega (
-        arith,
-        ap nat_abs (c.products-sums.ensures d ∙ added_held c.args.bytes.now c.loop-u.u d c.read-indicator.result c.read-sample.result _ _ first held (ap (λ n. eqb (n % 2) 1) held.enablement) (ap (λ n. eqb (n / 2 % 2) 1) held.enablement)),
-        added_bound _ _ c.loop-u.u d c.requires.inside here,
-      ),
+    let first = held_at _ _ _ _ _ c.new-reader.ensures.lent c.new-reader.ensures.start c.read-indicator.ensures.holds in
+    let held = held_at _ _ _ _ _ c.loop-unit.invariant.lent c.loop-unit.invariant.next c.read-sample.ensures.holds in (
+      λ d. omega (arith, ap nat_abs (c.loop-unit.invariant.sofar.rest c.loop-unit.unit-index d (omega arith)), c.requires.bounded c.loop-unit.unit-index d),
+      λ d. omega (arith, ap nat_abs (c.products-sums.ensures d ∙ added_held c.args.bytes.now c.loop-unit.unit-index d c.read-indicator.result c.read-sample.result _ _ first held (ap (λ n. eqb (n % 2) 1) held.enablement) (ap (λ n. eqb (n / 2 % 2) 1) held.enablement)), added_bound _ _ c.loop-unit.unit-index d c.requires.inside c.loop-unit-test.true),
     )
 
-pub loop-u-preserved : goal.loop-u-preserved
-loop-u-preserved c =
-    let first = held_first _ _ _ _ c.as_chunks.ensures.front (omega (arith, c.requires.inside.long)) c.read-indicator.ensures in
-    let held = held_after _ _ _ c.loop-u.u _ c.as_chunks.ensures.front c.as_chunks.ensures.front_len (omega (arith, c.loop-u-test.true)) c.read-sample.ensures in
-    let here : c.loop-u.u < length c.loop-u.units = omega (arith, c.loop-u-test.true, c.as_chunks.ensures.front_len, c.requires.inside.long, c.loop-u.auto.units) in
-    one_more c.args.bytes.now c.args.units.now c.loop-u.units c.loop-u.u c.add_assign.new.self here c.loop-u.invariant
-    (λ d.
-    c.add_assign.ensures.after d
-    ∙ ap (λ z. sum_at c.loop-u.units c.loop-u.u d +ℤ z) (c.products-sums.ensures d ∙ added_held c.args.bytes.now c.loop-u.u d c.read-indicator.result c.read-sample.result _ _ first held (ap (λ n. eqb (n % 2) 1) held.enablement) (ap (λ n. eqb (n / 2 % 2) 1) held.enablement)))
+pub loop-unit-preserved : goal.loop-unit-preserved
+loop-unit-preserved c =
+    let first = held_at _ _ _ _ _ c.new-reader.ensures.lent c.new-reader.ensures.start c.read-indicator.ensures.holds in
+    let held = held_at _ _ _ _ _ c.loop-unit.invariant.lent c.loop-unit.invariant.next c.read-sample.ensures.holds in
+    record {
+      next = omega (arith, c.read-sample.ensures.moved, c.loop-unit.invariant.next);
+      lent = c.read-sample.ensures.lent ∙ c.loop-unit.invariant.lent;
+      sofar =
+          one_more c.args.bytes.now c.args.units.now c.loop-unit.units c.loop-unit.unit-index c.add_assign.new.self (omega arith) c.loop-unit.invariant.sofar
+          (λ d. c.add_assign.ensures.after d ∙ ap (λ z. sum_at c.loop-unit.units c.loop-unit.unit-index d +ℤ z) (c.products-sums.ensures d ∙ added_held c.args.bytes.now c.loop-unit.unit-index d c.read-indicator.result c.read-sample.result _ _ first held (ap (λ n. eqb (n % 2) 1) held.enablement) (ap (λ n. eqb (n / 2 % 2) 1) held.enablement)));
+    }
+
+pub returns : goal.returns
+returns c = record {
+  many = c.loop-unit.auto.units;
+  owners = c.loop-unit.invariant.sofar.owners;
+  sums = λ u d l. c.loop-unit.invariant.sofar.done u d (omega arith);
+}

@@ -1,6 +1,5 @@
-use Rattle.std.proofs.Common.{◌≡◌, length, pos, nat_abs, sym, ap, ◌∙◌, arith, w16, SFits, rules, length-append}
+use Rattle.std.proofs.Common.{◌≡◌, ◌+◌, get_or, pos, nat_abs, refl, sym, ap, ◌∙◌, arith, w16, SFits, rules}
 use Rattle.std.proofs.lemmas.Int.{to_z-of_z}
-use Rattle.std.proofs.lemmas.Slice.Zip.{zip_turn}
 use Rattle.foundation.proofs.Sums.{sum_to_int_none}
 use Rattle.sampling.specs.declared.category.Category.{Category}
 use Rattle.sampling.specs.declared.category.Category.TheVariants.{RaiseNotEnabled, RaiseEnabled, LowerNotEnabled, LowerEnabled}
@@ -15,24 +14,17 @@ none_summed s h RaiseEnabled = h.1.0
 none_summed s h LowerNotEnabled = h.1.1.0
 none_summed s h LowerEnabled = h.1.1.1
 
-pub loop-indicator-init : goal.loop-indicator-init
-loop-indicator-init c = λ d. none_summed c.default-sums.result c.default-sums.ensures d ∙ sym (sum_to_int_none _)
+pub loop-k-init : goal.loop-k-init
+loop-k-init c = λ d. none_summed c.default-sums.result c.default-sums.ensures d ∙ sym (sum_to_int_none _)
 
 pub count-requires : goal.count-requires
 count-requires c d =
-    let begin = c.into_iter-indicator-iterator.ensures.into_iter_gives in
-    let indicators = ap (λ z. z.a.rest.now) begin ∙ ap (λ i. i.rest.now) c.zip-indicator-items.ensures.first ∙ c.iter.ensures.rest in
-    let deviations = ap (λ z. z.b.rest.now) begin ∙ c.zip-indicator-items.ensures.second.0 in
-    let turn = zip_turn c.args.indicator.now c.args.values.now c.loop-indicator.yielded c.into_iter-indicator-iterator.result c.loop-indicator.indicator-iterator c.next.new.self c.next.result indicators deviations c.loop-indicator.yielded_by (c.in-Some.indicator, c.in-Some.value) c.in-Some.is c.next.ensures.steps in
-    let bound = products_bound c.args.indicator.now c.args.values.now c.args.raise c.args.lower d (length c.loop-indicator.yielded) (omega (arith, turn.1)) (c.told-indicator ∙ sym c.told-values) c.requires.indicated c.requires.deviated in
-    omega (arith, bound, ap nat_abs (c.loop-indicator.invariant d), turn.1, c.told-values)
+    let bound = products_bound c.args.indicator.now c.args.values.now c.args.raise c.args.lower d c.loop-k.k (omega (arith, c.told-values)) (c.told-indicator ∙ sym c.told-values) c.requires.indicated c.requires.deviated in
+    omega (arith, bound, ap nat_abs (c.loop-k.invariant d))
 
-pub loop-indicator-preserved : goal.loop-indicator-preserved
-loop-indicator-preserved c = λ d.
-    let begin = c.into_iter-indicator-iterator.ensures.into_iter_gives in
-    let indicators = ap (λ z. z.a.rest.now) begin ∙ ap (λ i. i.rest.now) c.zip-indicator-items.ensures.first ∙ c.iter.ensures.rest in
-    let deviations = ap (λ z. z.b.rest.now) begin ∙ c.zip-indicator-items.ensures.second.0 in
-    let turn = zip_turn c.args.indicator.now c.args.values.now c.loop-indicator.yielded c.into_iter-indicator-iterator.result c.loop-indicator.indicator-iterator c.next.new.self c.next.result indicators deviations c.loop-indicator.yielded_by (c.in-Some.indicator, c.in-Some.value) c.in-Some.is c.next.ensures.steps in
-    let f : SFits w16 c.in-Some.indicator.now = search rules in
-    let g : SFits w16 c.in-Some.value.now = search rules in
-    products_more c.args.indicator.now c.args.values.now c.args.raise c.args.lower d (length c.loop-indicator.yielded) _ c.in-Some.indicator.now c.in-Some.value.now _ _ (turn.2 (pos 0)) (turn.3 (pos 0)) (length-append c.loop-indicator.yielded _) (c.loop-indicator.invariant d) (simp to_z-of_z at (c.count.ensures d))
+pub loop-k-preserved : goal.loop-k-preserved
+loop-k-preserved c = λ d.
+    let k = c.loop-k.k in
+    let f : SFits w16 (get_or c.args.indicator.now k (pos 0)) = search rules in
+    let g : SFits w16 (get_or c.args.values.now k (pos 0)) = search rules in
+    products_more c.args.indicator.now c.args.values.now c.args.raise c.args.lower d k (k + 1) _ _ _ _ refl refl refl (c.loop-k.invariant d) (simp to_z-of_z at (c.count.ensures d))
