@@ -23,7 +23,7 @@ is_claimed Free = false
 is_claimed (Declared d) = false
 is_claimed (Claimed d p) = true
 
--- the first interval above the last one recovered
+-- the first interval above the last one recovered; each kind of interval has a definition of its own
 abbrev pub after : Option WeekInterval → ℕ
 after None = 0
 after (Some i) = suc i.number

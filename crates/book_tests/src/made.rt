@@ -1,7 +1,6 @@
 // What the tests start from, and what they ask of answers.
 use book::book::Book;
 use book::claim::{Claim, OpenClaim, Returned};
-use book::state::Kind;
 use book::term::Term;
 use energy::metered::Metered;
 use energy::source::EnergySource;
@@ -225,7 +224,7 @@ pub(crate) fn is_declared(
 ) -> bool {
     book.declaration(number).is_some_and(|declaration| {
         declaration.serial == serial
-            && Kind::try_from(kind) == Ok(declaration.kind)
+            && declaration.kind as u8 == kind
             && declaration.regions == regions
             && declaration.last.map(|interval| interval.number()) == last
     })

@@ -80,7 +80,7 @@ fn given_back<E: EnergySource, L: Ledger>(
     }
 }
 
-// Whether a claim gets 16 for a recovery and for a return. A claim must be spent on every path, so the exits stand one by one.
+// Whether a claim gets 16 for a recovery and for a return.
 fn is_not_open<E: EnergySource, L: Ledger>(
     claim: Claim,
     book: &mut Book,

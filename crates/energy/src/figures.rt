@@ -22,7 +22,7 @@ fn row_of<E: EnergySource>(source: &E, party: u16) -> [u32; 5]
     array::from_fn(|region| source.energy(party, region as u8))
 }
 
-// It takes a row by value, as a proof knows the length of an array, and not that of an array in an array.
+// It takes a row by value: where an array in an array is written, a proof does not know the length of the inner one.
 fn raised(mut row: [u32; 5], region: u8, kwh: u32) -> [u32; 5]
     requires region { region < 5 }
     requires room { listed row region + kwh < 2 ^ 32 }

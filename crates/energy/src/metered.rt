@@ -8,6 +8,8 @@ use crate::figures::Figures;
 use crate::source::{EnergySource, PARTIES, REGIONS};
 use foundation::fault::{Fault, Layer, Refusal};
 
+pub const RECORD_BYTES: usize = 8;
+
 const MOST_RECORDS: usize = 4_096;
 // All figures of a source together, in kWh.
 pub const LIMIT: u32 = 40_000_000;
@@ -25,11 +27,11 @@ struct Reading {
     kwh: u32,
 }
 
-impl From<[u8; 8]> for Reading {
+impl From<[u8; RECORD_BYTES]> for Reading {
     ghost from_gives = { λ bytes reading. ReadingAt bytes 0 reading };
 
     #[tactic(auto, unfolding(foundation::specs::Bytes::number_at))]
-    fn from(bytes: [u8; 8]) -> Reading {
+    fn from(bytes: [u8; RECORD_BYTES]) -> Reading {
         let [p1, p0, region, zero, k3, k2, k1, k0] = bytes;
         Reading {
             party: u16::from_be_bytes([p1, p0]),
@@ -59,7 +61,7 @@ fn summed_up(bytes: &[u8]) -> Figures
     requires { metered_fault bytes.now ≡ None }
     ensures { (p r : ℕ) → figure_of result.rows p r ≡ summed bytes.now (length bytes.now / 8) p r }
 {
-    let (records, _) = bytes.as_chunks::<8>();
+    let (records, _) = bytes.as_chunks::<RECORD_BYTES>();
     let mut figures = Figures::none();
     for record in records {
         let reading = Reading::from(*record);
@@ -73,7 +75,7 @@ impl Metered {
     pub fn check(bytes: &[u8]) -> Result<(), Fault>
         ensures { refusal result ≡ metered_fault bytes.now }
     {
-        let (records, rest) = bytes.as_chunks::<8>();
+        let (records, rest) = bytes.as_chunks::<RECORD_BYTES>();
         if !rest.is_empty() || records.len() > MOST_RECORDS {
             return Err(Layer::Energies.fault(Refusal::WrongLength, 0));
         }

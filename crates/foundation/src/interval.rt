@@ -1,5 +1,5 @@
-// Dispatch intervals of five minutes, of two kinds that are never taken for one another: two structs, each with its own limit, and not
-// one with its limit as a parameter, so that each says its period where it is read.
+// Dispatch intervals of five minutes, of two kinds that are never taken for one another: two structs of one field, each with its own limit.
+// That is a rule of this project (docs/DECISIONS.md), though one struct could take the limit as a parameter.
 ghost use Rattle.std.specs.Prelude.{◌≡◌, ◌<◌, ◌≤◌, MatchOption};
 
 // An interval of the sample period of 28 days.

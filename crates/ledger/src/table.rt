@@ -12,8 +12,8 @@ use foundation::fault::Fault;
 // The lines that a table takes.
 pub const CAPACITY: u32 = 1_000_000;
 
-// The amounts of party 0 under serials 1 to 32, then those of party 1, and so on. They are one array, as a proof knows its
-// length, and not that of an array in an array.
+// The amounts of party 0 under serials 1 to 32, then those of party 1, and so on. They are one array: where an array in an array is
+// written, a proof does not know the length of the inner one.
 #[derive(Drop)]
 pub struct Table {
     amounts: [i64; 2048],

@@ -38,7 +38,7 @@ fn post_shares<L: Ledger>(shares: &[u64; 64], serial: u16, ledger: &mut L) -> Re
     Ok(())
 }
 
-// Recovers a part over a set of regions under a serial, and answers CMPF, CRMPF and how many lines it posted. A part, regions or
+// Recovers a part over a set of regions under a serial, and answers CMPF, CRMPF and how many lines it posted, as one tuple by the rule of this project. A part, regions or
 // a serial out of range are one and the same refusal, so the serial can be judged first. Factors, source and ledger stand apart, as
 // their owners hold them apart: a struct of them would be made for each call and taken apart in it.
 pub fn recover<E: EnergySource, L: Ledger>(

@@ -19,6 +19,7 @@ use std::array;
 // The largest part that one recovery takes, in ticks.
 pub const LARGEST_PART: u64 = 200_000_000_000;
 
+// Rows of one figure each, as a part is divided over whole rows.
 #[derive(Drop)]
 pub struct Split {
     // By party.

@@ -12,7 +12,7 @@ in_samples number place = refused_in 1 number place
 abbrev pub unless : Bool → ℕ → ℕ → Option Refused
 unless test number place = unless_in 1 test number place
 
--- the first interval number that is above the last used one
+-- the first interval number that is above the last used one; each kind of interval has a definition of its own
 abbrev pub after : Option SampleInterval → ℕ
 after None = 0
 after (Some i) = suc i.number

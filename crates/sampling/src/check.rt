@@ -100,6 +100,7 @@ pub(crate) fn check_interval(
     let mut reader = Reader::new(bytes);
     let indicator = reader.read();
     let interval = check_indicator(&indicator, last)?;
+    // The reader walks on by itself, so that only the number of the unit is counted.
     for unit in 0..units {
         let sample = reader.read();
         check_unit(&sample, interval, unit as u16)?;

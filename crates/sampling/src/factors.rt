@@ -5,7 +5,7 @@ ghost use Rattle.foundation.specs.Sums.{sum_to, listed};
 mod answers;
 
 // By owner: parties 0 to 63, then the residual. The factors add up to a million, or are all 0.
-// They are a table of their own, since the division writes them as one slice.
+// They are a table of their own, since a million is divided over all weights at once.
 #[derive(Drop)]
 pub struct Factors {
     factors: [u64; 65],

@@ -47,7 +47,8 @@ impl Record {
     }
 }
 
-// Walks the records of an interval's bytes.
+// Walks the records of an interval's bytes, in order, and gives each with its place. That a reader does so over the lent bytes is a rule of
+// this project.
 #[derive(Drop)]
 pub struct Reader<'a> {
     bytes: &'a [u8],

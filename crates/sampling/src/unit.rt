@@ -22,6 +22,7 @@ fn products(indicator: &[i16; VALUES], values: &[i16; VALUES], raise: bool, lowe
     ensures { (c : Category) → sum_in result c ≡ sum_to_int 75 (λ k. product_in c (slice_index_or indicator.now k (pos 0)) raise lower (slice_index_or values.now k (pos 0))) }
 {
     let mut sums = Sums::default();
+    // With a counter beside each value: a rule of this project.
     for (k, value) in values.iter().enumerate() {
         sums.count(indicator[k], raise, lower, *value);
     }

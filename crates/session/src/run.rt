@@ -97,7 +97,8 @@ fn hand_back(book: &mut Book, number: u8) -> Answer
     }
 }
 
-// Makes one call. A recovery is made with these factors and energies, where factors are published.
+// Makes one call. A recovery is made with these factors and energies, where factors are published. An arm for each, as each takes other
+// things.
 pub fn call<E: EnergySource, L: Ledger>(
     book: &mut Book,
     call: Call,

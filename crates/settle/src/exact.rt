@@ -79,7 +79,8 @@ impl Exact {
         }
     }
 
-    // The part in the proportion of a weight to all weights. The bounds are asked for here, since a test makes a fraction without a split.
+    // The part in the proportion of a weight to all weights. Its bound is asked for by itself: tests make fractions of figures that no split has,
+    // and would have to make a bounded part too.
     fn of_weight(part: u64, weight: u32, weights: u32) -> Exact
         requires part { part ≤ 200000000000 }
         requires some { 0 < weights }
@@ -168,7 +169,7 @@ impl<'a> PartSplit<'a> {
         ensures energy { result.energy ≡ sum_to 64 (energy_of self.now.shares) }
         ensures share { result.share ≡ self.now.part }
     {
-        // One loop for both sums.
+        // One loop for both sums: two chains would each have to show their bound.
         let mut energy = 0;
         let mut share = 0;
         for party in 0..PARTIES {

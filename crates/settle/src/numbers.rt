@@ -34,6 +34,7 @@ pub(crate) fn exactly<const N: usize>(words: &[&str], most: u64) -> Result<[u64;
     if words.len() != N {
         return Err(NoStep::Unknown);
     }
+    // By place, as a word that writes no number ends it.
     let mut numbers = [0; N];
     for (k, word) in words.iter().enumerate() {
         numbers[k] = number(*word, most)?;
@@ -73,6 +74,7 @@ pub(crate) fn weights(words: &[&str]) -> Result<[u16; PARTIES], NoStep>
     if words.len() > PARTIES {
         return Err(NoStep::Unknown);
     }
+    // By place, for the same reason; the others stay 0.
     let mut weights = [0; PARTIES];
     for (party, word) in words.iter().enumerate() {
         weights[party] = number(*word, 65_535)? as u16;

@@ -183,6 +183,7 @@ impl State {
     }
 }
 
+// State and event are matched together in one plain table: a rule of this project.
 pub(crate) fn decide(state: State, event: Event) -> Result<State, Fault>
     ensures answer { fault_of result ≡ table_fault state event }
     ensures value { IfOk result (λ s. s ≡ table_state state event) }

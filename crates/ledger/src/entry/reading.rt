@@ -2,14 +2,14 @@
 ghost use Rattle.std.specs.Prelude.{◌≡◌};
 ghost use Rattle.ledger.specs.Entries.{EntryAt, ReadAt, bytes_of, is_ledgers};
 
-use super::Entry;
+use super::{Entry, RECORD_BYTES};
 use crate::posting::{is_amount, is_debit};
 
-impl From<[u8; 16]> for Entry {
+impl From<[u8; RECORD_BYTES]> for Entry {
     ghost from_gives = { λ bytes entry. EntryAt bytes 0 entry };
 
     #[tactic(auto, unfolding(foundation::specs::Bytes::number_at, foundation::specs::Bytes::long_at))]
-    fn from(bytes: [u8; 16]) -> Entry {
+    fn from(bytes: [u8; RECORD_BYTES]) -> Entry {
         let [p1, p0, s1, s0, ..] = bytes;
         let [_, _, _, _, z3, z2, z1, z0, ..] = bytes;
         let [.., l7, l6, l5, l4, l3, l2, l1, l0] = bytes;
@@ -26,14 +26,14 @@ impl From<[u8; 16]> for Entry {
 pub fn entry_at(bytes: &[u8], k: usize) -> Option<Entry>
     ensures { ReadAt bytes.now k result }
 {
-    let (records, _) = bytes.as_chunks::<16>();
+    let (records, _) = bytes.as_chunks::<RECORD_BYTES>();
     let record = records.get(k)?;
     Some(Entry::from(*record))
 }
 
 impl Entry {
     // The bytes of its record.
-    pub(crate) fn bytes(self) -> [u8; 16]
+    pub(crate) fn bytes(self) -> [u8; RECORD_BYTES]
         ensures { result ≡ bytes_of self }
     {
         let [p1, p0] = self.party.to_be_bytes();

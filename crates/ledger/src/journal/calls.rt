@@ -77,7 +77,7 @@ impl<'a> Ledger for Journal<'a> {
             return 0;
         }
         let bytes = &*self.bytes;
-        let (records, _) = bytes.as_chunks::<16>();
+        let (records, _) = bytes.as_chunks::<RECORD_BYTES>();
         // A loop, as no contract bounds the running sum of a chain of signed numbers.
         let mut sum = 0;
         for record in &records[..self.written] {

@@ -5,7 +5,7 @@ ghost use Rattle.foundation.specs.Sums.{listed};
 ghost use Rattle.sampling.specs.Factors.{factor_of, is_factored, residual_of, owned_by};
 
 use super::Factors;
-use foundation::division::divide;
+use foundation::division::shares;
 
 const PARTIES: u16 = 64;
 
@@ -19,9 +19,10 @@ impl Factors {
         ensures factors { (o : ℕ) → o < 65 → listed result.factors o ≡ share 1000000 65 (listed weights.now) o }
         ensures units { result.units ≡ units }
     {
-        let mut factors = [0; 65];
-        divide(MILLION, weights, &mut factors);
-        Factors { factors, units }
+        Factors {
+            factors: shares(MILLION, weights),
+            units,
+        }
     }
 
     // A party's factor, 0 for one out of range.

@@ -9,12 +9,10 @@ use energy::dispatch::dispatch_figure;
 use energy::figures::Figures;
 use energy::handover::Handover;
 use energy::island::Island;
-use energy::metered::Metered;
+use energy::metered::{Metered, RECORD_BYTES};
 use energy::profile::Profile;
 use energy::source::EnergySource;
 use std::array;
-
-const METERED_BYTES: usize = 8;
 
 // A metered file has 4,096 records at most; one byte more shows that there are too many.
 const METERED_READ: usize = 32_769;
@@ -33,7 +31,7 @@ impl Run {
     fn meter(&mut self, line: usize, name: &str, bytes: &[u8]) -> Result<(), Failure> {
         match Metered::check(bytes) {
             Ok(()) => {
-                let records = bytes.len() / METERED_BYTES;
+                let records = bytes.len() / RECORD_BYTES;
                 self.energies = Figures::copied(&Metered::new(bytes));
                 self.say(line, format_args!("{name}: {records} metered records"))
             }

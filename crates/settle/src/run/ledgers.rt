@@ -148,6 +148,7 @@ impl Run {
             ""
         };
         self.say(line, format_args!("{name}: {records}{more}"))?;
+        // Each by the question that promises what it reads.
         for k in 0..count {
             if let Some(entry) = entry_at(bytes, k) {
                 self.record(k, entry)?;
