@@ -2,12 +2,13 @@
 ghost use Rattle.std.specs.Prelude.{◌≡◌, ◌&&◌, IfOk, nat_le, nat_lt};
 ghost use Rattle.foundation.specs.Fault.{refusal as fault_of, unless_in};
 ghost use Rattle.book.specs.Calls.{number_fault};
+ghost use Rattle.book.specs.States.{is_number};
 ghost use Rattle.book.specs.Checks.{Proposes, Ranged, declaration_fault, kind_of, request_fault, terms_fault};
 
 use crate::state::Kind;
 use crate::state::table::Proposal;
 use crate::term::{Term, first_outside, is_delayed, payment};
-use energy::island::ALL_REGIONS;
+use energy::island::is_set;
 use energy::source::REGIONS;
 use foundation::fault::{Fault, Layer, Refusal};
 use foundation::interval::WeekInterval;
@@ -29,10 +30,17 @@ fn out_of_range(place: usize) -> Fault
     Layer::Book.fault(Refusal::OutOfRange, place)
 }
 
+// Whether there is such a number.
+pub(crate) fn is_number(number: u8) -> bool
+    ensures { result ≡ is_number number }
+{
+    (1..=NUMBERS).contains(&number)
+}
+
 pub(crate) fn check_number(number: u8) -> Result<(), Fault>
     ensures { fault_of result ≡ number_fault number }
 {
-    if number < 1 || number > NUMBERS {
+    if !is_number(number) {
         return Err(out_of_range(0));
     }
     Ok(())
@@ -45,7 +53,7 @@ pub(crate) fn check_declaration(number: u8, kind: u8, regions: u8) -> Result<Kin
 {
     check_number(number)?;
     let asked = Kind::try_from(kind)?;
-    if regions < 1 || regions > ALL_REGIONS {
+    if !is_set(regions) {
         return Err(out_of_range(0));
     }
     Ok(asked)

@@ -5,14 +5,14 @@ ghost use Rattle.sampling.specs.Factors.{residual_of};
 ghost use Rattle.energy.specs.Dispatch.{dispatch_fault, dispatch_of};
 ghost use Rattle.energy.specs.Energy.{grand};
 
-use crate::island::{ALL_REGIONS, Island};
+use crate::island::{Island, is_set};
 use crate::source::{EnergySource, REGIONS};
 use foundation::division::portion;
 use foundation::fault::{Fault, Layer, Refusal};
 use sampling::factors::Factors;
 
 // The totals of all regions.
-fn total_of_all<E: EnergySource>(source: &E) -> u64
+pub fn total_of_all<E: EnergySource>(source: &E) -> u64
     ensures { result ≡ grand (E.EnergySource.kwh source.now) }
 {
     (0..REGIONS)
@@ -29,7 +29,7 @@ pub fn dispatch_figure<E: EnergySource>(
     ensures answer { refusal result ≡ dispatch_fault regions }
     ensures value { IfOk result (λ n. n ≡ dispatch_of (residual_of factors.now) regions (E.EnergySource.kwh source.now)) }
 {
-    if regions == 0 || regions > ALL_REGIONS {
+    if !is_set(regions) {
         return Err(Layer::Energies.fault(Refusal::OutOfRange, 0));
     }
     let inside = total_of_all(&Island::new(source, regions));

@@ -1,5 +1,5 @@
 // Any source below, seen only in the regions of a set.
-ghost use Rattle.std.specs.Prelude.{◌≡◌, ℕ, ◌&&◌, if◌then◌else◌, nat_lt};
+ghost use Rattle.std.specs.Prelude.{◌≡◌, ℕ, ◌&&◌, if◌then◌else◌, nat_le, nat_lt};
 ghost use Rattle.foundation.specs.Sums.{sum_to};
 ghost use Rattle.energy.specs.Energy.{in_region, grand, member, within, moved};
 ghost use Rattle.energy.specs.Totals.{within_bounded};
@@ -13,6 +13,13 @@ pub const ALL_REGIONS: u8 = 31;
 pub struct Island<E> {
     below: E,
     regions: u8,
+}
+
+// Whether a number is a set: there is a region in it, and no other.
+pub fn is_set(regions: u8) -> bool
+    ensures { result ≡ (nat_le 1 regions && nat_le regions 31) }
+{
+    (1..=ALL_REGIONS).contains(&regions)
 }
 
 // Whether there is such a region, and the set has it: bit r of the set stands for region r.

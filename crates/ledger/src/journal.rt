@@ -5,6 +5,8 @@ ghost use Rattle.ledger.specs.Journal.{line_at, owed_in, records_in};
 
 mod calls;
 
+pub use calls::records_in;
+
 // The most records that a journal uses.
 pub const MOST_RECORDS: usize = 4_096;
 

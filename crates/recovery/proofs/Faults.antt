@@ -83,3 +83,7 @@ recover_passes D b serial left h k fine enough =
 pub recover_lacks : (D : ℕ) (b : Basis) (serial left : ℕ) → 1 ≤ serial → serial ≤ 32 → split_fault D b ≡ None → left < lines_of D b → recover_fault D b serial left ≡ Some (refused_in 4 18 0)
 recover_lacks D b serial left h k fine few =
     recover_by_split D b serial left h k ∙ ap (λ o. or_else o (lines_fault D b left)) fine ∙ lines_lack D b left few
+
+-- a number that is taken for a set is one
+pub set_held : (D : ℕ) (r : Bool) → r ≡ (leb 1 D && leb D 31) → r ≡ true → (1 ≤ D) × (D ≤ 31)
+set_held D r e f = (grind (arith, nat_tests), grind (arith, nat_tests))

@@ -9,7 +9,7 @@ ghost use Rattle.recovery.specs.Split.{Parted, energy_of, share_in};
 
 use crate::weights::{RESIDUAL, Weights};
 use energy::figures::Figures;
-use energy::island::ALL_REGIONS;
+use energy::island::is_set;
 use energy::source::EnergySource;
 use foundation::division::shares;
 use foundation::fault::{Fault, Layer, Refusal};
@@ -76,7 +76,7 @@ impl Split {
         if part < 1 || part > LARGEST_PART {
             return Err(Layer::Book.fault(Refusal::OutOfRange, 0));
         }
-        if regions < 1 || regions > ALL_REGIONS {
+        if !is_set(regions) {
             return Err(Layer::Book.fault(Refusal::OutOfRange, 0));
         }
         // Asks the source for each figure once.

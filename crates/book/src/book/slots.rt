@@ -4,7 +4,7 @@ ghost use Rattle.book.specs.Calls.{changed};
 ghost use Rattle.book.specs.States.{is_number, is_sound, state_in};
 
 use super::Book;
-use crate::check::NUMBERS;
+use crate::check::is_number;
 use crate::state::State;
 
 impl Book {
@@ -12,7 +12,7 @@ impl Book {
     pub(super) fn state(&self, number: u8) -> State
         ensures { result ≡ state_in self.now.states number }
     {
-        if number < 1 || number > NUMBERS {
+        if !is_number(number) {
             return State::Free;
         }
         self.states[usize::from(number) - 1]

@@ -11,7 +11,8 @@ use crate::entry::{Entry, RECORD_BYTES};
 use crate::posting::{Ledger, check_post, is_amount};
 use foundation::fault::Fault;
 
-fn records_in(bytes: &[u8]) -> usize
+// How many records a journal over these bytes has room for: the whole ones, as far as a journal goes.
+pub fn records_in(bytes: &[u8]) -> usize
     ensures { result ≡ records_in bytes.now }
 {
     (bytes.len() / RECORD_BYTES).min(MOST_RECORDS)

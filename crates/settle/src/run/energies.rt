@@ -1,11 +1,11 @@
 // The steps that set and ask the energy source.
-ghost use Rattle.std.specs.Prelude.{◌≡◌, [], ◌∷◌, sum};
+ghost use Rattle.std.specs.Prelude.{◌≡◌, [], ◌∷◌};
 ghost use Rattle.energy.specs.Energy.{total_of};
 
 use super::Run;
 use crate::failure::Failure;
 use crate::numbers::{PARTIES, REGIONS};
-use energy::dispatch::dispatch_figure;
+use energy::dispatch::{dispatch_figure, total_of_all};
 use energy::figures::Figures;
 use energy::handover::Handover;
 use energy::island::Island;
@@ -73,9 +73,8 @@ impl Run {
     }
 
     pub(super) fn totals(&mut self, line: usize) -> Result<(), Failure> {
-        let totals = totals(&self.energies);
-        let sum = sum(&totals);
-        let [a, b, c, d, e] = totals;
+        let [a, b, c, d, e] = totals(&self.energies);
+        let sum = total_of_all(&self.energies);
         self.say(line, format_args!("totals {a} {b} {c} {d} {e}, sum {sum}"))
     }
 
@@ -98,10 +97,4 @@ fn totals<E: EnergySource>(source: &E) -> [u32; REGIONS]
     ensures { result ≡ total_of (E.EnergySource.kwh source.now) 0 ∷ total_of (E.EnergySource.kwh source.now) 1 ∷ total_of (E.EnergySource.kwh source.now) 2 ∷ total_of (E.EnergySource.kwh source.now) 3 ∷ total_of (E.EnergySource.kwh source.now) 4 ∷ [] }
 {
     array::from_fn(|region| source.total(region as u8))
-}
-
-fn sum(of: &[u32; REGIONS]) -> u64
-    ensures { result ≡ sum of.now }
-{
-    of.iter().map(|total| u64::from(*total)).sum()
 }

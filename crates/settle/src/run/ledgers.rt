@@ -9,7 +9,7 @@ use crate::money::Dollars;
 use crate::sheet::Line;
 use ledger::entry::reading::entry_at;
 use ledger::entry::{Entry, RECORD_BYTES};
-use ledger::journal::{Journal, MOST_RECORDS};
+use ledger::journal::{Journal, MOST_RECORDS, records_in};
 use ledger::posting::{Ledger, PARTIES, SERIALS};
 use ledger::table::Table;
 use std::alloc::Global;
@@ -24,13 +24,6 @@ fn journal_bytes(records: u16) -> usize
     ensures { result ≡ 16 * min records 4096 }
 {
     RECORD_BYTES * usize::from(records).min(MOST_RECORDS)
-}
-
-// The whole records among so many bytes, as far as they are told.
-fn whole_records(bytes: usize) -> usize
-    ensures { result ≡ min (bytes / 16) 4096 }
-{
-    (bytes / RECORD_BYTES).min(MOST_RECORDS)
 }
 
 impl Run {
@@ -137,7 +130,7 @@ impl Run {
     }
 
     fn records(&mut self, line: usize, name: &str, bytes: &[u8]) -> Result<(), Failure> {
-        let count = whole_records(bytes.len());
+        let count = records_in(bytes);
         let records = Counted {
             count,
             what: "record",
