@@ -16,7 +16,8 @@ pub enum Category {
 }
 
 impl Category {
-    // The category in which a sample counts, or none where the frequency indicator is 0.
+    // The category in which a sample counts, or none where the frequency indicator is 0. Raise and lower are two bools here and below, as in
+    // the definitions.
     pub fn of(indicator: i16, raise: bool, lower: bool) -> Option<Category>
         ensures { result ≡ category_of indicator raise lower }
     {

@@ -1,10 +1,7 @@
-use Rattle.std.proofs.Common.{sym, arith, below_more}
+use Rattle.std.proofs.Common.{sym, arith}
 use Rattle.std.proofs.lemmas.Result.{err_from_is_err_and}
 use Rattle.foundation.proofs.First.{first_to_all, first_to_at}
 use Rattle.book.proofs.check.check_terms.Goals as goal
-
-pub loop-place-preserved : goal.loop-place-preserved
-loop-place-preserved c = below_more _ _ c.loop-place.invariant (sym c.in_ok-check_term.ensures)
 
 pub returns-in_err-check_term : goal.returns-in_err-check_term
 returns-in_err-check_term c =

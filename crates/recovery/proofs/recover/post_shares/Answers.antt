@@ -3,20 +3,9 @@ use Rattle.foundation.specs.Fault.{told}
 use Rattle.foundation.specs.Sums.{listed}
 use Rattle.foundation.proofs.First.{some_none}
 use Rattle.recovery.proofs.Lines.{lines_at, lines_past, lines_mono}
-use Rattle.recovery.proofs.Posting.{line_is, post_passes, lowered_none, lowered_at, lowered_past}
+use Rattle.recovery.proofs.Posting.{line_is, post_passes, lowered_at, lowered_past}
 use Rattle.recovery.proofs.recover.post_shares.Goals as goal
 use Rattle.recovery.proofs.recover.post_shares.Goals.{then-share-gt0+in_ok-post, else-share-gt0}
-
-pub debit-requires : goal.debit-requires
-debit-requires g c = c.requires.sizes c.loop-party.party (omega arith)
-
-pub loop-party-init : goal.loop-party-init
-loop-party-init g c =
-    let shares = listed c.args.shares.now in (
-      lowered_none shares c.args.serial (g.L.Ledger.owed c.args.ledger.now),
-      omega arith,
-      omega arith,
-    )
 
 -- what is still to be posted has its lines, so the post is not refused
 pub returns-in_err-post : goal.returns-in_err-post

@@ -1,16 +1,7 @@
-use Rattle.std.proofs.Common.{◌≡◌, suc, ◌*◌, length, sym, ap, ◌∙◌, arith, rules, below_more}
+use Rattle.std.proofs.Common.{◌≡◌, suc, ◌*◌, length, sym, ◌∙◌, arith, below_more}
 use Rattle.std.proofs.lemmas.Result.{err_from_is_err_and, IfOk-from_err}
-use Rattle.sampling.specs.Interval.{interval_fault}
 use Rattle.sampling.proofs.Records.{held_at, indicator_held, unit_held, indicator_bad, unit_bad, all_good}
 use Rattle.sampling.proofs.check.check_interval.Goals as goal
-
-pub returns-then-units-eq0 : goal.returns-then-units-eq0
-unfolding interval_fault
-returns-then-units-eq0 c = search rules
-
-pub returns-then-bytes-units : goal.returns-then-bytes-units
-unfolding interval_fault
-returns-then-bytes-units c = search rules
 
 pub returns-in_err-interval : goal.returns-in_err-interval
 returns-in_err-interval c =
@@ -21,16 +12,6 @@ returns-in_err-interval c =
       answer = rw (p.1, p.2) (indicator_bad _ _ _ _ c.if-units-eq0.false long (sym (indicator_held _ _ _ held) ∙ sym c.in_err-interval.ensures.cases));
       value = IfOk-from_err _ _ c.from_residual.ensures.0;
     }
-
-pub loop-unit-init : goal.loop-unit-init
-loop-unit-init c = (
-  omega (arith, c.read-indicator.ensures.moved, c.new-reader.ensures.start),
-  c.read-indicator.ensures.lent ∙ c.new-reader.ensures.lent,
-  λ k l. absurd (omega arith),
-)
-
-pub read-sample-requires : goal.read-sample-requires
-read-sample-requires c = omega (arith, c.loop-unit.invariant.0, ap length c.loop-unit.invariant.1)
 
 pub returns-in_err-check_unit : goal.returns-in_err-check_unit
 returns-in_err-check_unit c =

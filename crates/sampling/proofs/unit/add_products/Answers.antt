@@ -1,27 +1,8 @@
-use Rattle.std.proofs.Common.{◌/◌, ◌%◌, eqb, length, ◌+ℤ◌, nat_abs, refl, ap, ◌∙◌, arith, rules}
+use Rattle.std.proofs.Common.{◌/◌, ◌%◌, eqb, ◌+ℤ◌, nat_abs, ap, ◌∙◌, arith}
 use Rattle.sampling.specs.Units.{sum_at}
 use Rattle.sampling.proofs.Records.{held_at}
-use Rattle.sampling.proofs.Units.{one_more, within_held, added_held, added_bound}
+use Rattle.sampling.proofs.Units.{one_more, added_held, added_bound}
 use Rattle.sampling.proofs.unit.add_products.Goals as goal
-
-pub loop-unit-init : goal.loop-unit-init
-loop-unit-init c = record {
-  next = omega (arith, c.read-indicator.ensures.moved, c.new-reader.ensures.start);
-  lent = c.read-indicator.ensures.lent ∙ c.new-reader.ensures.lent;
-  sofar = record { owners = λ v. refl; done = λ v d l. absurd (omega arith); rest = λ v d l. refl };
-}
-
-pub read-sample-requires : goal.read-sample-requires
-read-sample-requires c = omega (arith, c.loop-unit.invariant.next, ap length c.loop-unit.invariant.lent, c.requires.inside.long)
-
-pub products-sums-requires : goal.products-sums-requires
-products-sums-requires c =
-    let first = held_at _ _ _ _ _ c.new-reader.ensures.lent c.new-reader.ensures.start c.read-indicator.ensures.holds in
-    let held = held_at _ _ _ _ _ c.loop-unit.invariant.lent c.loop-unit.invariant.next c.read-sample.ensures.holds in
-    record {
-      indicated = within_held c.args.bytes.now 0 1560 c.read-indicator.result first (search rules) c.requires.inside.indicator;
-      deviated = within_held c.args.bytes.now _ 20000 c.read-sample.result held (search rules) (λ k l. c.requires.inside.deviations c.loop-unit.unit-index k (omega arith) l);
-    }
 
 pub add_assign-requires : goal.add_assign-requires
 add_assign-requires c =
@@ -42,10 +23,3 @@ loop-unit-preserved c =
           one_more c.args.bytes.now c.args.units.now c.loop-unit.units c.loop-unit.unit-index c.add_assign.new.self (omega arith) c.loop-unit.invariant.sofar
           (λ d. c.add_assign.ensures.after d ∙ ap (λ z. sum_at c.loop-unit.units c.loop-unit.unit-index d +ℤ z) (c.products-sums.ensures d ∙ added_held c.args.bytes.now c.loop-unit.unit-index d c.read-indicator.result c.read-sample.result _ _ first held (ap (λ n. eqb (n % 2) 1) held.enablement) (ap (λ n. eqb (n / 2 % 2) 1) held.enablement)));
     }
-
-pub returns : goal.returns
-returns c = record {
-  many = c.loop-unit.auto.units;
-  owners = c.loop-unit.invariant.sofar.owners;
-  sums = λ u d l. c.loop-unit.invariant.sofar.done u d (omega arith);
-}

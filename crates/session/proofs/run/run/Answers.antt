@@ -8,9 +8,6 @@ use Rattle.session.specs.Runs.{run_through}
 use Rattle.session.proofs.Lists.{run_more}
 use Rattle.session.proofs.run.run.Goals as goal
 
-pub loop-k-init : goal.loop-k-init
-loop-k-init g c = (c.requires, λ h k. k)
-
 pub loop-k-preserved : goal.loop-k-preserved
 loop-k-preserved g c = (
   length-set c.loop-k.answers c.loop-k.k c.call.result ∙ c.loop-k.invariant.0,
