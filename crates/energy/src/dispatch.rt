@@ -32,7 +32,8 @@ pub fn dispatch_figure<E: EnergySource>(
     if !is_set(regions) {
         return Err(Layer::Energies.fault(Refusal::OutOfRange, 0));
     }
-    let inside = total_of_all(&Island::new(source, regions));
+    // First all totals: those of the set are among them, and need not be summed again.
     let all = total_of_all(source);
+    let inside = total_of_all(&Island::new(source, regions));
     Ok(portion(u64::from(factors.residual()), inside, all) as u32)
 }

@@ -9,6 +9,7 @@ use crate::metered::LIMIT;
 use crate::source::{EnergySource, PARTIES, REGIONS};
 use foundation::division::shares;
 use foundation::fault::{Fault, Layer, Refusal};
+use std::array;
 
 #[derive(Clone, Copy)]
 pub struct Profile {
@@ -42,7 +43,8 @@ impl Profile {
     {
         shares(
             u64::from(self.totals[region as usize]),
-            &self.weights.map(u64::from),
+            // In one pass: an array's `map` makes four.
+            &array::from_fn(|party| u64::from(self.weights[party])),
         )
     }
 
