@@ -4,6 +4,14 @@ ghost use Rattle.std.specs.Prelude.{◌≡◌, ◌+◌, ◌-◌, ◌^◌, min, �
 use book::state::Kind;
 use std::num::Saturating;
 
+// Serials are counted from 1.
+pub(crate) const SERIALS: usize = ledger::posting::SERIALS as usize;
+
+// The place of a serial among the accounts.
+pub(crate) fn place_of(serial: u16) -> usize {
+    usize::from(serial).wrapping_sub(1)
+}
+
 // Each sum is of parts, in ticks.
 #[derive(Clone, Copy)]
 pub(crate) struct Account {
@@ -25,6 +33,30 @@ impl Account {
             recovered: Saturating(0),
             handed_back: Saturating(0),
         }
+    }
+
+    pub(crate) fn claim(&mut self, part: u64)
+        ensures claimed { self.new.claimed.0 ≡ min (self.old.claimed.0 + part) (2 ^ 64 - 1) }
+        ensures recovered { self.new.recovered ≡ self.old.recovered }
+        ensures handed { self.new.handed_back ≡ self.old.handed_back }
+    {
+        self.claimed += part;
+    }
+
+    pub(crate) fn recover(&mut self, part: u64)
+        ensures claimed { self.new.claimed ≡ self.old.claimed }
+        ensures recovered { self.new.recovered.0 ≡ min (self.old.recovered.0 + part) (2 ^ 64 - 1) }
+        ensures handed { self.new.handed_back ≡ self.old.handed_back }
+    {
+        self.recovered += part;
+    }
+
+    pub(crate) fn hand_back(&mut self, part: u64)
+        ensures claimed { self.new.claimed ≡ self.old.claimed }
+        ensures recovered { self.new.recovered ≡ self.old.recovered }
+        ensures handed { self.new.handed_back.0 ≡ min (self.old.handed_back.0 + part) (2 ^ 64 - 1) }
+    {
+        self.handed_back += part;
     }
 
     // Whether what was claimed is what was recovered, handed back and is still open.

@@ -1,5 +1,5 @@
 // What a run prints of its declarations at its end.
-use crate::accounts::Account;
+use crate::accounts::{Account, SERIALS};
 use crate::failure::Failure;
 use crate::money::Dollars;
 use book::book::Book;
@@ -8,12 +8,11 @@ use energy::island::in_set;
 use energy::source::REGIONS;
 use ledger::posting::{Ledger, PARTIES};
 use std::alloc::Global;
-use std::collections::BTreeMap;
-use std::io;
 use std::io::Write;
 use std::num::Saturating;
+use std::{array, io};
 
-const NUMBERS: u8 = 16;
+const NUMBERS: usize = 16;
 
 fn verdict(agree: bool) -> &'static str {
     if agree {
@@ -24,9 +23,9 @@ fn verdict(agree: bool) -> &'static str {
 }
 
 // The ticks of the open claims under a serial.
-fn open_under(open: &[OpenClaim], serial: u16) -> Saturating<u64> {
+fn open_under(open: &[Option<OpenClaim>], serial: u16) -> Saturating<u64> {
     let mut sum = Saturating(0);
-    for claim in open {
+    for claim in open.iter().flatten() {
         if claim.serial == serial {
             sum += claim.part;
         }
@@ -84,7 +83,7 @@ fn declaration<L: Ledger>(
     out: &mut impl Write,
     heap: Global,
     book: &Book,
-    open: &[OpenClaim],
+    open: &[Option<OpenClaim>],
     serial: u16,
     account: Account,
     ledger: &L,
@@ -108,36 +107,42 @@ fn open_claim(out: &mut impl Write, claim: OpenClaim) -> io::Result<()> {
     )
 }
 
-fn open_claims(out: &mut impl Write, open: &[OpenClaim]) -> io::Result<()> {
-    if open.is_empty() {
+fn open_claims(out: &mut impl Write, open: &[Option<OpenClaim>]) -> io::Result<()> {
+    let count = open.iter().flatten().count();
+    if count == 0 {
         return writeln!(out, "Claims still open: none");
     }
-    let count = open.len();
     writeln!(out, "Claims still open: {count}")?;
-    for claim in open {
+    for claim in open.iter().flatten() {
         open_claim(out, *claim)?;
     }
     Ok(())
+}
+
+// An array, so that no memory can be wanting for it.
+fn claims_by_number(book: &Book) -> [Option<OpenClaim>; NUMBERS] {
+    array::from_fn(|before| book.open_claim(before as u8 + 1))
 }
 
 pub(crate) fn print<L: Ledger>(
     out: &mut impl Write,
     heap: Global,
     book: &Book,
-    accounts: &BTreeMap<u16, Account>,
+    accounts: &[Option<Account>; SERIALS],
     ledger: &L,
 ) -> Result<(), Failure> {
-    if accounts.is_empty() {
+    if book.declarations() == 0 {
         return Ok(());
     }
-    let open: Vec<OpenClaim> = (1..=NUMBERS)
-        .filter_map(|number| book.open_claim(number))
-        .collect(heap)?;
+    let open = claims_by_number(book);
     writeln!(out)?;
-    for (serial, account) in accounts.iter() {
-        declaration(out, heap, book, open.as_slice(), *serial, *account, ledger)?;
+    for (before, account) in accounts.iter().enumerate() {
+        if let Some(account) = account {
+            let serial = before as u16 + 1;
+            declaration(out, heap, book, &open, serial, *account, ledger)?;
+        }
     }
     writeln!(out)?;
-    open_claims(out, open.as_slice())?;
+    open_claims(out, &open)?;
     Ok(())
 }

@@ -109,12 +109,13 @@ impl Exact {
     }
 }
 
-// A part split by factors. What holds of it bounds all figures below.
+// A part split by factors. That it is bounds all figures below.
 #[derive(Drop)]
 pub(crate) struct PartSplit<'a> {
     pub(crate) part: u64,
     pub(crate) factors: &'a Factors,
     pub(crate) shares: Split,
+    ghost split: { ∥ SplitOf part factors.now shares ∥₁ },
     ghost bounded: { Bounded part factors.now shares },
 }
 
@@ -127,6 +128,7 @@ impl<'a> PartSplit<'a> {
     ) -> Result<PartSplit<'a>, Fault>
         ensures answer { refusal result ≡ split_fault regions (basis_of part factors.now (E.EnergySource.kwh source.now)) }
         ensures value { IfOk result (λ s. SplitOf part factors.now s.shares) }
+        ensures kept { IfOk result (λ s. (s.part ≡ part) × (s.factors.now ≡ factors.now)) }
     {
         let shares = Split::of(part, regions, factors, source)?;
         Ok(PartSplit {

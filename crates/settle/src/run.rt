@@ -1,7 +1,7 @@
 // Carries out the steps of a run sheet.
 ghost use Rattle.std.specs.Prelude.{◌≡◌, ◌+◌, ◌*◌, ◌≤◌, length, IfOk, vec_len};
 
-use crate::accounts::Account;
+use crate::accounts::{Account, SERIALS};
 use crate::failure::Failure;
 use crate::files::fill;
 use crate::sheet::{Line, Step};
@@ -14,7 +14,6 @@ use sampling::factors::Factors;
 use sampling::reader::RECORD_BYTES;
 use sampling::state::Sampling;
 use std::alloc::Global;
-use std::collections::BTreeMap;
 use std::fmt::Display;
 use std::fs::File;
 use std::io::{BufWriter, Stdout, Write};
@@ -40,8 +39,8 @@ struct Run {
     energies: Figures,
     tally: Tally,
     book: Book,
-    // By serial.
-    accounts: BTreeMap<u16, Account>,
+    // By serial, where one is declared: an array, so that a declaration wants no memory.
+    accounts: [Option<Account>; SERIALS],
 }
 
 // A sample interval has a record for the frequency indicator and one for each unit.
@@ -62,7 +61,7 @@ impl Run {
             energies: Figures::none(),
             tally: Tally::new(heap),
             book: Book::open(),
-            accounts: BTreeMap::new(heap),
+            accounts: [None; SERIALS],
         })
     }
 
@@ -139,8 +138,11 @@ impl Run {
     }
 
     fn register_file(&mut self, rt: &HostRuntime, line: usize, name: &str) -> Result<(), Failure> {
-        let owners = self.read(rt, line, name, OWNERS_READ)?;
-        self.register(line, owners.as_slice())
+        let mut owners = [0u8; OWNERS_READ];
+        let count = self
+            .fill_from(rt, name, &mut owners)
+            .map_err(|error| unusable(rt.alloc(), line, name, error))?;
+        self.register(line, &owners[..count])
     }
 
     // Fills the buffer from a file, and says how far.

@@ -1,6 +1,6 @@
 // The steps that are calls on the book.
 use super::Run;
-use crate::accounts::Account;
+use crate::accounts::{Account, place_of};
 use crate::counted::Counted;
 use crate::failure::Failure;
 use crate::sheet::{Line, Step};
@@ -126,9 +126,10 @@ impl Run {
         else {
             return Ok(());
         };
-        if let Ok(kind) = Kind::try_from(kind) {
-            let account = Account::opened(number, kind, regions);
-            self.accounts.insert(serial, account)?;
+        if let Ok(kind) = Kind::try_from(kind)
+            && let Some(account) = self.accounts.get_mut(place_of(serial))
+        {
+            *account = Some(Account::opened(number, kind, regions));
         }
         self.say(
             line,
@@ -137,8 +138,8 @@ impl Run {
     }
 
     fn claimed(&mut self, line: usize, claim: OpenClaim) -> Result<(), Failure> {
-        if let Some(account) = self.accounts.get_mut(&claim.serial) {
-            account.claimed += claim.part;
+        if let Some(Some(account)) = self.accounts.get_mut(place_of(claim.serial)) {
+            account.claim(claim.part);
         }
         let number = claim.number;
         let told = Told(claim);
@@ -157,8 +158,8 @@ impl Run {
             count: lines as usize,
             what: "line",
         };
-        if let Some(account) = self.accounts.get_mut(&claim.serial) {
-            account.recovered += claim.part;
+        if let Some(Some(account)) = self.accounts.get_mut(place_of(claim.serial)) {
+            account.recover(claim.part);
         }
         let number = claim.number;
         let told = Told(claim);
@@ -169,8 +170,8 @@ impl Run {
     }
 
     fn handed_back(&mut self, line: usize, claim: OpenClaim) -> Result<(), Failure> {
-        if let Some(account) = self.accounts.get_mut(&claim.serial) {
-            account.handed_back += claim.part;
+        if let Some(Some(account)) = self.accounts.get_mut(place_of(claim.serial)) {
+            account.hand_back(claim.part);
         }
         let number = claim.number;
         let told = Told(claim);

@@ -1,5 +1,5 @@
 // The step that shows who pays which share.
-ghost use Rattle.std.specs.Prelude.{◌<◌};
+ghost use Rattle.std.specs.Prelude.{◌≡◌, ◌<◌};
 ghost use Rattle.recovery.specs.Split.{energy_of};
 
 use super::Run;
@@ -26,7 +26,7 @@ impl Run {
         };
         match PartSplit::of(part, set, factors, &self.energies) {
             Ok(split) => {
-                summary(&mut self.out, line, set, &split)?;
+                summary(&mut self.out, line, part, set, &split)?;
                 table(&mut self.out, heap, &split)
             }
             Err(fault) => self.say(line, fault),
@@ -34,8 +34,16 @@ impl Run {
     }
 }
 
-fn summary(out: &mut impl Write, line: usize, set: u8, split: &PartSplit) -> io::Result<()> {
-    let part = split.part;
+// The split is that of the part that was asked for.
+fn summary(
+    out: &mut impl Write,
+    line: usize,
+    part: u64,
+    set: u8,
+    split: &PartSplit,
+) -> io::Result<()>
+    requires asked { split.now.part ≡ part }
+{
     let cmpf = split.shares.cmpf();
     let crmpf = split.shares.crmpf();
     let lines = Counted {
