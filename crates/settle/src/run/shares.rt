@@ -8,6 +8,7 @@ use crate::exact::{Exact, PartSplit, Sums};
 use crate::failure::Failure;
 use crate::money::Dollars;
 use energy::source::PARTIES;
+use sampling::factors::Factors;
 use std::alloc::Global;
 use std::fmt::Display;
 use std::io::Write;
@@ -27,7 +28,7 @@ impl Run {
         match PartSplit::of(part, set, factors, &self.energies) {
             Ok(split) => {
                 summary(&mut self.out, line, part, set, &split)?;
-                table(&mut self.out, heap, &split)
+                table(&mut self.out, heap, part, factors, &split)
             }
             Err(fault) => self.say(line, fault),
         }
@@ -158,7 +159,16 @@ fn sums(out: &mut impl Write, heap: Global, split: &PartSplit) -> Result<(), Fai
     Ok(())
 }
 
-fn table(out: &mut impl Write, heap: Global, split: &PartSplit) -> Result<(), Failure> {
+// The split is that of the part that was asked for, by the published factors: no other is shown in its place.
+fn table(
+    out: &mut impl Write,
+    heap: Global,
+    part: u64,
+    factors: &Factors,
+    split: &PartSplit,
+) -> Result<(), Failure>
+    requires asked { (split.now.part ≡ part) × (split.now.factors.now ≡ factors.now) }
+{
     heading(out)?;
     parties(out, heap, split)?;
     Row::of_residual(split).print(out, heap, "residual")?;
